@@ -1,0 +1,1 @@
+// Laws of lists and bytes that know nothing of drills: no code.

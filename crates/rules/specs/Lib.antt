@@ -1,0 +1,16 @@
+pub mod Refusals
+pub mod Numbers
+pub mod Lines
+pub mod Commands
+pub mod Set
+pub mod State
+pub mod Rows
+pub mod Holes
+pub mod Reading
+pub mod Editing
+pub mod Asking
+pub mod Writing
+pub mod Printing
+pub mod Spelling
+pub mod Obeys
+pub mod Bench

@@ -1,0 +1,42 @@
+-- Document 01, "Numbers and sizes": how a file's bytes fall into lines.
+use mathlib.Core.Bool.{Bool, true, false, _&&_}
+use mathlib.Core.List.{List, [], _∷_}
+use Prim.Native.Nat.{ℕ, _-_}
+use lib.Dec.{eqb, ltb, leb}
+use lib.ListN.{length, getD, take}
+use Rattle.lists.specs.Choice.{pick}
+
+abbrev pub LF : ℕ
+LF = 10
+
+abbrev pub CR : ℕ
+CR = 13
+
+-- a line: its bytes up to its LF, and whether the LF is there
+pub record Line : Type 0 where
+  pub bytes : List ℕ
+  pub ended : Bool
+
+abbrev pub emptyLine : Line
+emptyLine = record { bytes = []; ended = true }
+
+abbrev pub addByte : ℕ → List Line → List Line
+addByte b [] = record { bytes = b ∷ []; ended = false } ∷ []
+addByte b (l ∷ ls) = record { bytes = b ∷ l .bytes; ended = l .ended } ∷ ls
+
+-- each LF ends a line; bytes after the last LF are a line that is not ended
+unfoldable pub linesOf : List ℕ → List Line
+linesOf [] = []
+linesOf (b ∷ bs) = pick (eqb b LF) (emptyLine ∷ linesOf bs) (addByte b (linesOf bs))
+
+-- one CR right before the LF belongs to the line's end
+unfoldable pub endsInCR : List ℕ → Bool
+endsInCR l = ltb 0 (length l) && eqb (getD l (length l - 1) 0) CR
+
+unfoldable pub textOf : List ℕ → List ℕ
+textOf l = pick (endsInCR l) (take (length l - 1) l) l
+
+-- bytes that a line may hold
+unfoldable pub isPrintable : List ℕ → Bool
+isPrintable [] = true
+isPrintable (b ∷ l) = leb 32 b && leb b 126 && isPrintable l

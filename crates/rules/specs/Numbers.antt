@@ -1,0 +1,116 @@
+-- Document 01, "Numbers and sizes": how a number is written, and which numbers are in range. Digits are counted exactly,
+-- however many a line holds: nothing here is capped.
+use mathlib.Core.Bool.{Bool, true, false, _&&_}
+use mathlib.Core.List.{List, [], _∷_}
+use Prim.Native.Nat.{ℕ, suc, _+_, _-_, _*_, _^_}
+use Prim.Native.Char.{code}
+use lib.Dec.{leb, eqb}
+use lib.IntN.{ℤ, pos, negℤ}
+use lib.ListN.{drop}
+use Rattle.lists.specs.Choice.{pick}
+use Rattle.lists.specs.Words.{bytes, startsWith}
+
+-- sizes
+abbrev pub maxFile : ℕ
+maxFile = 65536
+
+abbrev pub maxLines : ℕ
+maxLines = 1000
+
+abbrev pub maxLine : ℕ
+maxLine = 256
+
+-- the largest coordinate, diameter and radius, in millionths
+abbrev pub maxNumber : ℕ
+maxNumber = 999999999
+
+abbrev pub maxTool : ℕ
+maxTool = 99
+
+-- most digits after the point
+abbrev pub maxPlaces : ℕ
+maxPlaces = 6
+
+-- ---- how a number is written
+
+unfoldable pub isDigit : ℕ → Bool
+isDigit b = leb (code "0") b && leb b (code "9")
+
+-- the digits that bytes begin with: their value, how many they are, and the bytes after them
+pub record DigitRun : Type 0 where
+  pub value : ℕ
+  pub count : ℕ
+  pub rest : List ℕ
+
+abbrev pub noDigits : List ℕ → DigitRun
+noDigits l = record { value = 0; count = 0; rest = l }
+
+abbrev pub oneMore : ℕ → DigitRun → DigitRun
+oneMore d r = record { value = d * 10 ^ r .count + r .value; count = suc (r .count); rest = r .rest }
+
+unfoldable pub digitsOf : List ℕ → DigitRun
+digitsOf [] = noDigits []
+digitsOf (b ∷ l) = pick (isDigit b) (oneMore (b - code "0") (digitsOf l)) (noDigits (b ∷ l))
+
+-- a number as it is written: its sign, its digits as one number, and how many of them stand after the point
+pub record Decimal : Type 0 where
+  pub negative : Bool
+  pub digits : ℕ
+  pub places : ℕ
+
+-- such a number and the bytes after it, or none
+pub data Reading : Type 0 where
+  got : Decimal → List ℕ → Reading
+  none : Reading
+
+abbrev pub onReading {ℓ} : {A : Type ℓ} → Reading → A → (Decimal → List ℕ → A) → A
+onReading (got d rest) z f = f d rest
+onReading none z f = z
+
+-- digits with at most one point, at least one digit in all
+abbrev pub wholeNumber : Bool → DigitRun → Reading
+wholeNumber neg w = pick (eqb (w .count) 0) none (got (record { negative = neg; digits = w .value; places = 0 }) (w .rest))
+
+abbrev pub withFraction : Bool → DigitRun → DigitRun → Reading
+withFraction neg w f =
+    pick (eqb (w .count + f .count) 0) none
+    (got (record { negative = neg; digits = w .value * 10 ^ f .count + f .value; places = f .count }) (f .rest))
+
+abbrev pub afterDigits : Bool → DigitRun → Reading
+afterDigits neg w = pick (startsWith (w .rest) (bytes ".")) (withFraction neg w (digitsOf (drop 1 (w .rest)))) (wholeNumber neg w)
+
+unfoldable pub magnitudeOf : Bool → List ℕ → Reading
+magnitudeOf neg l = afterDigits neg (digitsOf l)
+
+-- a diameter or a radius has no sign; a coordinate may have one
+unfoldable pub unsignedOf : List ℕ → Reading
+unsignedOf l = magnitudeOf false l
+
+unfoldable pub signedOf : List ℕ → Reading
+signedOf l =
+    pick (startsWith l (bytes "-")) (magnitudeOf true (drop 1 l))
+    (pick (startsWith l (bytes "+")) (magnitudeOf false (drop 1 l)) (magnitudeOf false l))
+
+-- ---- which numbers are in range
+
+-- at most six places: the number in whole millionths
+unfoldable pub millionths : Decimal → ℕ
+millionths d = d .digits * 10 ^ (maxPlaces - d .places)
+
+abbrev pub withSign : Bool → ℕ → ℤ
+withSign neg n = pick neg (negℤ (pos n)) (pos n)
+
+-- a coordinate lies in -999,999,999 to 999,999,999
+unfoldable pub isCoordinate : Decimal → Bool
+isCoordinate d = leb (d .places) maxPlaces && leb (millionths d) maxNumber
+
+unfoldable pub coordinateOf : Decimal → ℤ
+coordinateOf d = withSign (d .negative) (millionths d)
+
+-- a diameter or a radius lies in 1 to 999,999,999
+unfoldable pub isSize : Decimal → Bool
+isSize d = leb (d .places) maxPlaces && (leb 1 (millionths d) && leb (millionths d) maxNumber)
+
+-- a tool number lies in 1 to 99
+unfoldable pub isTool : ℕ → Bool
+isTool t = leb 1 t && leb t maxTool

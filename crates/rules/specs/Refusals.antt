@@ -1,0 +1,64 @@
+-- Document 01, "The answers": the refusals by name, in the order in which they are tested.
+use Prim.Native.Nat.{ℕ}
+use Rattle.rules.specs.declared.Refusal.{Refusal}
+
+abbrev pub refusal : ℕ → Refusal
+refusal n = record { number = n }
+
+-- no refusal: the number of success
+abbrev pub none : Refusal
+none = refusal 0
+
+abbrev pub fileTooLong : Refusal
+fileTooLong = refusal 1
+
+abbrev pub tooManyLines : Refusal
+tooManyLines = refusal 2
+
+abbrev pub lineNotEnded : Refusal
+lineNotEnded = refusal 3
+
+abbrev pub lineTooLong : Refusal
+lineTooLong = refusal 6
+
+abbrev pub forbiddenByte : Refusal
+forbiddenByte = refusal 4
+
+abbrev pub noSuchForm : Refusal
+noSuchForm = refusal 5
+
+abbrev pub outOfRange : Refusal
+outOfRange = refusal 7
+
+abbrev pub wrongPhase : Refusal
+wrongPhase = refusal 8
+
+abbrev pub wrongMotion : Refusal
+wrongMotion = refusal 12
+
+abbrev pub declaredAlready : Refusal
+declaredAlready = refusal 9
+
+abbrev pub notDeclared : Refusal
+notDeclared = refusal 10
+
+abbrev pub noToolSelected : Refusal
+noToolSelected = refusal 11
+
+abbrev pub impossibleArc : Refusal
+impossibleArc = refusal 13
+
+abbrev pub endsTooSoon : Refusal
+endsTooSoon = refusal 14
+
+abbrev pub noRoom : Refusal
+noRoom = refusal 15
+
+abbrev pub noSuchLine : Refusal
+noSuchLine = refusal 16
+
+abbrev pub holdsLineEnd : Refusal
+holdsLineEnd = refusal 17
+
+abbrev pub badTable : Refusal
+badTable = refusal 18

@@ -1,0 +1,1 @@
+// Laws of runs of any state machine: no code, and not one word of drills.
