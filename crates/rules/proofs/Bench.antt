@@ -5,7 +5,7 @@ use Prim.Native.Nat.{_*_}
 use lib.IntN.{pos}
 use Rattle.lists.specs.Words.{bytes}
 use Rattle.lists.specs.Words.{startsWith}
-use Rattle.runs.specs.Machine.{run, rerun, follow, lastOf}
+use Rattle.runs.specs.Machine.{run, rerun, follow, allHold, lastOf}
 use Rattle.rules.specs.declared.Answer.the-variants.{Done}
 use Rattle.rules.specs.declared.HoleAnswer.the-variants.{Makes}
 use Rattle.rules.specs.Numbers.{isDigit, digitsOf, magnitudeOf, unsignedOf, signedOf, millionths, isCoordinate, coordinateOf, isSize, isTool}
@@ -13,7 +13,7 @@ use Rattle.rules.specs.Lines.{linesOf, endsInCR, textOf, isPrintable}
 use Rattle.rules.specs.Commands.{noSemicolon, commentForm, pointForm, arcForm, toolForm, formOf, inRange, meaningOf, commandOf, lineOf}
 use Rattle.rules.specs.Set.{has, insert}
 use Rattle.rules.specs.State.{sameNumber, samePoint, squareOfDifference, squareOfDistance, fourSquares, isPossible, need, step, sameTools, sameState}
-use Rattle.rules.specs.Rows.{Good, commandNumbers, stateNumbers, rowNumbers, tableNumbers, within, isCoord, legalTool, legalPoint, legalSize, legalCommand, isEven, legalState, rowTest, commandFrom, commandAt, stateAt, lookOf, entriesOf, sizesFit, allHold}
+use Rattle.rules.specs.Rows.{Good, commandNumbers, stateNumbers, rowNumbers, tableNumbers, within, isCoord, legalTool, legalPoint, legalSize, legalCommand, isEven, legalState, rowTest, commandFrom, commandAt, stateAt, lookOf, entriesOf, sizesFit}
 use Rattle.rules.specs.Holes.{holeOf}
 use Rattle.rules.specs.Reading.{commandIn, runOf, fileOf, hasRoom, readAnswer, readLeaves}
 use Rattle.rules.specs.Editing.{isLine, noLineEnd, fromBefore, editFrom, editRows, editOf, editAnswer, editLeaves}

@@ -6,7 +6,7 @@ use lib.Dec.{ltb, eqb}
 use lib.IntN.{ℤ, pos, negsuc}
 use Rattle.lists.specs.Choice.{pick}
 use Rattle.lists.specs.Words.{bytes}
-use Rattle.runs.specs.Machine.{onVerdict, lastOf}
+use Rattle.runs.specs.Machine.{onVerdict, allHold, lastOf}
 use Rattle.runs.specs.Machine as M
 use Rattle.rules.specs.declared.Point.{Point}
 use Rattle.rules.specs.declared.Command.{Command}
@@ -19,7 +19,6 @@ use Rattle.rules.specs.declared.DiameterAnswer.{DiameterAnswer}
 use Rattle.rules.specs.declared.DiameterAnswer.the-variants as D
 use Rattle.rules.specs.Lines.{LF}
 use Rattle.rules.specs.State.{start}
-use Rattle.rules.specs.Rows.{allHold}
 use Rattle.rules.specs.Holes.{holeOf}
 use Rattle.rules.specs.Reading.{Rows, fileOf}
 use Rattle.rules.specs.Asking.{diameterIn}

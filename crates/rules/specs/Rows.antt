@@ -8,7 +8,7 @@ use lib.IntN.{ℤ, pos, negsuc, natAbs}
 use lib.ListN.{length, getD, take, drop}
 use Rattle.lists.specs.Choice.{pick}
 use Rattle.runs.specs.Machine as M
-use Rattle.runs.specs.Machine.{Entry, holds, bad, Follows, lastOf}
+use Rattle.runs.specs.Machine.{Entry, holds, bad, allHold, Follows, lastOf}
 use Rattle.rules.specs.declared.Point.{Point}
 use Rattle.rules.specs.declared.Arc.{Arc}
 use Rattle.rules.specs.declared.Command.{Command}
@@ -183,11 +183,6 @@ entriesOf (suc n) t = entryOf (lookOf (take rowWidth t)) ∷ entriesOf n (drop r
 -- the lent numbers can hold n rows, and n is 1 to 1,000
 unfoldable pub sizesFit : List ℤ → ℕ → Bool
 sizesFit t n = leb 1 n && (leb n maxLines && leb n (length t / rowWidth))
-
--- all rows hold
-unfoldable pub allHold : List (M.Row Command State) → List (Entry Command State)
-allHold [] = []
-allHold (r ∷ rs) = holds r ∷ allHold rs
 
 -- a good table, and its rows
 pub record Good (t : List ℤ) (n : ℕ) (rs : List (M.Row Command State)) : Type 0 where

@@ -35,6 +35,11 @@ pub data Entry (C S : Type 0) : Type 0 where
   holds : Row C S → Entry C S
   bad : Entry C S
 
+-- rows of which each is found whole
+unfoldable pub allHold : {C S : Type 0} → List (Row C S) → List (Entry C S)
+allHold [] = []
+allHold (r ∷ rs) = holds r ∷ allHold rs
+
 -- the rows that an edit makes anew, and the line at which they end
 pub record Span (C S : Type 0) : Type 0 where
   pub meeting : ℕ
