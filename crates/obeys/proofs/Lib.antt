@@ -1,0 +1,6 @@
+pub mod Numbers
+pub mod Forms
+pub mod Lines
+pub mod Steps
+pub mod Split
+pub mod Files

@@ -1,0 +1,215 @@
+-- A line is answered with a command exactly where it spells that command, and with a refusal exactly where that refusal
+-- is so.
+use mathlib.Core.Path.{_≡_, refl, sym, ap, _∙_, subst}
+use mathlib.Core.Bool.{Bool, true, false, _&&_, false≢true}
+use mathlib.Core.List.{List, [], _∷_}
+use Prim.Native.Nat.{ℕ}
+use borrow.Author.Tests.{le-leb, lt-leb, leb-true, leb-false}
+use lib.Dec.{leb, eqb}
+use lib.ListN.{length}
+use lib.IntN.{ℤ}
+use Rattle.lists.proofs.Choice.{pick-all, both}
+use Rattle.rules.specs.declared.Command.{Command}
+use Rattle.rules.specs.declared.LineAnswer.{LineAnswer}
+use Rattle.rules.specs.Refusals.{forbiddenByte, noSuchForm, outOfRange}
+use Rattle.rules.specs.Numbers.{maxLine, maxNumber, maxTool, maxPlaces, Decimal, millionths, isCoordinate, coordinateOf, isSize, isTool}
+use Rattle.rules.specs.Lines.{isPrintable}
+use Rattle.rules.specs.Commands.{Form, comment, m48, metric, inch, declare, percent, g05, g00, select, hit, m15, m16, g01, g02, g03, m30, Formed, is, no-form, formOf, says, saysNo, inRange, meaningOf, onForm, commandOf, lineOf}
+use Rattle.rules.specs.Spelling.{Spells, Coordinate, coordinate, Size, size, Tool, Means, comment-means, m48-means, metric-means, inch-means, declare-means, percent-means, g05-means, g00-means, select-means, hit-means, m15-means, m16-means, g01-means, g02-means, g03-means, m30-means, Printable, byte, SpellsCommand, SpellsLine}
+use Rattle.rules.specs.Spelling as S
+use Rattle.obeys.specs.Says.{CommandSays, spells, no-command, LineSays, too-long, forbidden, allowed}
+use Rattle.obeys.specs.Says as A
+use Rattle.obeys.proofs.Forms.{Sound, form-read, form-sound}
+
+-- ---- ranges
+
+coordinate-read : {d : Decimal} {v : ℤ} → Coordinate d v → (isCoordinate d ≡ true) × (coordinateOf d ≡ v)
+unfolding isCoordinate coordinateOf
+coordinate-read (coordinate {d = d} p q) = (rw (le-leb (d .places) maxPlaces p, le-leb (millionths d) maxNumber q), refl)
+
+read-coordinate : (d : Decimal) → isCoordinate d ≡ true → Coordinate d (coordinateOf d)
+unfolding isCoordinate coordinateOf
+read-coordinate d e =
+    let h = both (leb (d .places) maxPlaces) (leb (millionths d) maxNumber) e in
+    coordinate {d = d} (leb-true (d .places) maxPlaces (h .0)) (leb-true (millionths d) maxNumber (h .1))
+
+size-read : {d : Decimal} {n : ℕ} → Size d n → (isSize d ≡ true) × (millionths d ≡ n)
+unfolding isSize
+size-read (size {d = d} p o q) = (rw (le-leb (d .places) maxPlaces p, le-leb 1 (millionths d) o, le-leb (millionths d) maxNumber q), refl)
+
+read-size : (d : Decimal) → isSize d ≡ true → Size d (millionths d)
+unfolding isSize
+read-size d e =
+    let h = both (leb (d .places) maxPlaces) (leb 1 (millionths d) && leb (millionths d) maxNumber) e in
+    let g = both (leb 1 (millionths d)) (leb (millionths d) maxNumber) (h .1) in
+    size {d = d} (leb-true (d .places) maxPlaces (h .0)) (leb-true 1 (millionths d) (g .0)) (leb-true (millionths d) maxNumber (g .1))
+
+tool-read : {t : ℕ} → Tool t → isTool t ≡ true
+unfolding isTool
+tool-read {t} w = rw (le-leb 1 t (w .low), le-leb t maxTool (w .high))
+
+read-tool : (t : ℕ) → isTool t ≡ true → Tool t
+unfolding isTool
+read-tool t e = let h = both (leb 1 t) (leb t maxTool) e in record { low = leb-true 1 t (h .0); high = leb-true t maxTool (h .1) }
+
+-- ---- what a form means
+
+means-read : {f : Form} {c : Command} → Means f c → meaningOf f ≡ says c
+unfolding meaningOf inRange
+means-read comment-means = refl
+means-read m48-means = refl
+means-read metric-means = refl
+means-read inch-means = refl
+means-read (declare-means t p) = let a = size-read p in rw (tool-read t, a .0, a .1)
+means-read percent-means = refl
+means-read g05-means = refl
+means-read (g00-means p q) = let a = coordinate-read p in let b = coordinate-read q in rw (a .0, b .0, a .1, b .1)
+means-read (select-means t) = rw (tool-read t)
+means-read (hit-means p q) = let a = coordinate-read p in let b = coordinate-read q in rw (a .0, b .0, a .1, b .1)
+means-read m15-means = refl
+means-read m16-means = refl
+means-read (g01-means p q) = let a = coordinate-read p in let b = coordinate-read q in rw (a .0, b .0, a .1, b .1)
+means-read (g02-means p q o) = let a = coordinate-read p in let b = coordinate-read q in let c = size-read o in rw (a .0, b .0, c .0, a .1, b .1, c .1)
+means-read (g03-means p q o) = let a = coordinate-read p in let b = coordinate-read q in let c = size-read o in rw (a .0, b .0, c .0, a .1, b .1, c .1)
+means-read m30-means = refl
+
+-- a command that the form means, or out of range
+data Meaning (f : Form) : LineAnswer → Type 0 where
+  means : {c : Command} → Means f c → Meaning f (says c)
+  no-meaning : Meaning f (saysNo outOfRange)
+
+ranged : (f : Form) (t : Bool) (c : Command) → (t ≡ true → Means f c) → Meaning f (inRange t c)
+unfolding inRange
+ranged f true c h = means (h refl)
+ranged f false c h = no-meaning
+
+module _ (a b : Decimal) {f : Form} {c : Command} where
+  point-meaning : (Coordinate a (coordinateOf a) → Coordinate b (coordinateOf b) → Means f c) → Meaning f (inRange (isCoordinate a && isCoordinate b) c)
+  point-meaning g = ranged f (isCoordinate a && isCoordinate b) c (λ e. let h = both (isCoordinate a) (isCoordinate b) e in g (read-coordinate a (h .0)) (read-coordinate b (h .1)))
+
+  arc-meaning : (r : Decimal) → (Coordinate a (coordinateOf a) → Coordinate b (coordinateOf b) → Size r (millionths r) → Means f c) → Meaning f (inRange (isCoordinate a && isCoordinate b && isSize r) c)
+  arc-meaning r g =
+      ranged f (isCoordinate a && isCoordinate b && isSize r) c
+      (λ e. let h = both (isCoordinate a && isCoordinate b) (isSize r) e in
+      let k = both (isCoordinate a) (isCoordinate b) (h .0) in
+      g (read-coordinate a (k .0)) (read-coordinate b (k .1)) (read-size r (h .1)))
+
+meaning : (f : Form) → Meaning f (meaningOf f)
+unfolding meaningOf
+meaning comment = means comment-means
+meaning m48 = means m48-means
+meaning metric = means metric-means
+meaning inch = means inch-means
+meaning (declare t d) = ranged _ (isTool t && isSize d) _ (λ e. let h = both (isTool t) (isSize d) e in declare-means (read-tool t (h .0)) (read-size d (h .1)))
+meaning percent = means percent-means
+meaning g05 = means g05-means
+meaning (g00 x y) = point-meaning x y (λ p q. g00-means p q)
+meaning (select t) = ranged _ (isTool t) _ (λ e. select-means (read-tool t e))
+meaning (hit x y) = point-meaning x y (λ p q. hit-means p q)
+meaning m15 = means m15-means
+meaning m16 = means m16-means
+meaning (g01 x y) = point-meaning x y (λ p q. g01-means p q)
+meaning (g02 x y r) = arc-meaning x y r (λ p q o. g02-means p q o)
+meaning (g03 x y r) = arc-meaning x y r (λ p q o. g03-means p q o)
+meaning m30 = means m30-means
+
+-- ---- a line's command
+
+-- no command has a refusal's number
+not-refused : {a : LineAnswer} {c : Command} → a ≡ says c → eqb (a .refusal .number) 0 ≡ false → ⊥
+not-refused e f = false≢true (sym f ∙ ap (λ a. eqb (a .refusal .number) 0) e)
+
+command-read : {l : List ℕ} {c : Command} → SpellsCommand l c → commandOf l ≡ says c
+unfolding commandOf
+command-read w = ap onForm (form-read (w .spelt)) ∙ means-read (w .means)
+
+abbrev HasForm : Formed → Type 0
+HasForm (is f) = Unit {0}
+HasForm no-form = ⊥
+
+command-sound : (l : List ℕ) → CommandSays l (commandOf l)
+unfolding commandOf
+command-sound l = by (formOf l) refl
+  where
+    of-form : (f : Form) → Spells l f → (a : LineAnswer) → meaningOf f ≡ a → Meaning f a → CommandSays l a
+    of-form f w a e (means m) = spells (record { form = f; spelt = w; means = m })
+    of-form f w a e no-meaning = no-command w (λ c m. not-refused (sym e ∙ means-read m) refl)
+
+    by : (x : Formed) → formOf l ≡ x → CommandSays l (onForm x)
+    by (is f) e = of-form f (subst (Sound l) e (form-sound l)) (meaningOf f) refl (meaning f)
+    by no-form e = A.no-form (λ f w. subst HasForm (sym (form-read w) ∙ e) tt)
+
+command-answer : {l : List ℕ} {a : LineAnswer} → CommandSays l a → commandOf l ≡ a
+unfolding commandOf
+command-answer (spells w) = command-read w
+command-answer {l} (A.no-form h) = by (formOf l) refl
+  where
+    by : (x : Formed) → formOf l ≡ x → onForm x ≡ saysNo noSuchForm
+    by (is f) e = absurd (h f (subst (Sound l) e (form-sound l)))
+    by no-form e = refl
+command-answer (no-command {f = f} w h) = ap onForm (form-read w) ∙ by (meaningOf f) (meaning f)
+  where
+    by : (a : LineAnswer) → Meaning f a → a ≡ saysNo outOfRange
+    by a (means {c = c} m) = absurd (h c m)
+    by a no-meaning = refl
+
+-- each answer says what it says, and is given exactly where that is so
+pub command-says : (l : List ℕ) (a : LineAnswer) → (commandOf l ≡ a → CommandSays l a) × (CommandSays l a → commandOf l ≡ a)
+command-says l a = (λ e. subst (CommandSays l) e (command-sound l), command-answer)
+
+says-command : {l : List ℕ} {a : LineAnswer} {c : Command} → CommandSays l a → a ≡ says c → SpellsCommand l c
+says-command {l} (spells w) e = subst (SpellsCommand l) (ap (λ a. a .command) e) w
+says-command (A.no-form h) e = absurd (not-refused e refl)
+says-command (no-command w h) e = absurd (not-refused e refl)
+
+pub command-iff : (l : List ℕ) (c : Command) → (commandOf l ≡ says c → SpellsCommand l c) × (SpellsCommand l c → commandOf l ≡ says c)
+command-iff l c = (λ e. says-command (command-sound l) e, command-read)
+
+pub one-command : {l : List ℕ} {c d : Command} → SpellsCommand l c → SpellsCommand l d → c ≡ d
+one-command v w = ap (λ a. a .command) (sym (command-read v) ∙ command-read w)
+
+-- ---- a line of a file
+
+printable-read : {l : List ℕ} → Printable l → isPrintable l ≡ true
+unfolding isPrintable
+printable-read S.none = refl
+printable-read (byte {b = b} p q w) = rw (le-leb 32 b p, le-leb b 126 q) (printable-read w)
+
+read-printable : (l : List ℕ) → isPrintable l ≡ true → Printable l
+unfolding isPrintable
+read-printable [] e = S.none
+read-printable (b ∷ l) e =
+    let h = both (leb 32 b && leb b 126) (isPrintable l) e in
+    let g = both (leb 32 b) (leb b 126) (h .0) in
+    byte (leb-true 32 b (g .0)) (leb-true b 126 (g .1)) (read-printable l (h .1))
+
+pub line-sound : (l : List ℕ) → LineSays l (lineOf l)
+unfolding lineOf
+line-sound l =
+    pick-all (LineSays l) (leb (length l) maxLine)
+    (λ s. pick-all (LineSays l) (isPrintable l)
+    (λ p. allowed (leb-true (length l) maxLine s) (read-printable l p) (command-sound l))
+    (λ p. forbidden (leb-true (length l) maxLine s) (λ w. false≢true (sym p ∙ printable-read w))))
+    (λ s. too-long (leb-false (length l) maxLine s))
+
+pub line-answer : {l : List ℕ} {a : LineAnswer} → LineSays l a → lineOf l ≡ a
+unfolding lineOf
+line-answer {l} (too-long h) = rw (lt-leb (length l) maxLine h)
+line-answer {l} (forbidden s h) =
+    rw (le-leb (length l) maxLine s)
+    (pick-all (λ a. a ≡ saysNo forbiddenByte) (isPrintable l) (λ p. absurd (h (read-printable l p))) (λ _. refl))
+line-answer {l} (allowed s p w) = rw (le-leb (length l) maxLine s, printable-read p) (command-answer w)
+
+pub line-says : (l : List ℕ) (a : LineAnswer) → (lineOf l ≡ a → LineSays l a) × (LineSays l a → lineOf l ≡ a)
+line-says l a = (λ e. subst (LineSays l) e (line-sound l), line-answer)
+
+pub says-line : {l : List ℕ} {a : LineAnswer} {c : Command} → LineSays l a → a ≡ says c → SpellsLine l c
+says-line (too-long h) e = absurd (not-refused e refl)
+says-line (forbidden s h) e = absurd (not-refused e refl)
+says-line (allowed s p w) e = record { short = s; printable = p; command = says-command w e }
+
+pub line-read : {l : List ℕ} {c : Command} → SpellsLine l c → lineOf l ≡ says c
+line-read w = line-answer (allowed (w .short) (w .printable) (spells (w .command)))
+
+pub line-iff : (l : List ℕ) (c : Command) → (lineOf l ≡ says c → SpellsLine l c) × (SpellsLine l c → lineOf l ≡ says c)
+line-iff l c = (λ e. says-line (line-sound l) e, line-read)
