@@ -5,7 +5,6 @@ use mathlib.Core.Bool.{Bool, true, false, not, false≢true}
 use Prim.Native.Nat.{ℕ, _*_}
 use borrow.Author.Tests.{eq-eqb, ne-eqb, eqb-true, eqb-false, lt-ltb, ltb-true, le-leb, leb-true, not-true}
 use lib.Dec.{eqb, ltb, leb}
-use lib.IntN.{ℤ, pos, negsuc}
 use Rattle.lists.proofs.Choice.{both}
 use Rattle.rules.specs.declared.Point.{Point}
 use Rattle.rules.specs.declared.Arc.{Arc}
@@ -17,33 +16,9 @@ use Rattle.rules.specs.declared.Next.{Next}
 use Rattle.rules.specs.declared.Next.the-variants.{To, No}
 use Rattle.rules.specs.Refusals.{wrongPhase, wrongMotion, declaredAlready, notDeclared, noToolSelected, impossibleArc}
 use Rattle.rules.specs.Set.{has}
-use Rattle.rules.specs.State.{phaseIs, motionIs, isSelected, sameNumber, samePoint, squareOfDistance, fourSquares, isPossible, need, step}
+use Rattle.rules.specs.State.{phaseIs, motionIs, isSelected, samePoint, squareOfDistance, fourSquares, isPossible, need, step}
+use Rattle.rules.proofs.Same.{same-point-iff}
 use Rattle.rules.specs.Obeys.{Free, Moving, Possible, Takes, comment, m48, metric, inch, declare, percent, g05, g00, select, hit, m15, m16, g01, g02, g03, m30}
-
--- ---- points: the test is equality
-
-number-same : (a : ℤ) → sameNumber a a ≡ true
-unfolding sameNumber
-number-same (pos n) = eq-eqb n n refl
-number-same (negsuc n) = eq-eqb n n refl
-
-same-number : (a b : ℤ) → sameNumber a b ≡ true → a ≡ b
-unfolding sameNumber
-same-number (pos m) (pos n) e = ap pos (eqb-true m n e)
-same-number (pos m) (negsuc n) e = absurd (false≢true e)
-same-number (negsuc m) (pos n) e = absurd (false≢true e)
-same-number (negsuc m) (negsuc n) e = ap negsuc (eqb-true m n e)
-
-pub same-point-iff : (p q : Point) → (samePoint p q ≡ true → p ≡ q) × (p ≡ q → samePoint p q ≡ true)
-unfolding samePoint
-same-point-iff p q = (to, λ e. subst (λ (z : Point). samePoint p z ≡ true) e (rw (number-same (p .x), number-same (p .y))))
-  where
-    to : samePoint p q ≡ true → p ≡ q
-    to e =
-        let h = both (sameNumber (p .x) (q .x)) (sameNumber (p .y) (q .y)) e in
-        let f : p .x ≡ q .x = same-number (p .x) (q .x) (h .0) in
-        let g : p .y ≡ q .y = same-number (p .y) (q .y) (h .1) in
-        λ i. record { x = f i; y = g i }
 
 -- ---- arcs
 

@@ -1,4 +1,61 @@
-// The things that document 01 speaks of, as types. What they mean stands in specs/, a file for each section.
+// The things that document 01 speaks of, as types, with its sizes and refusals by name. What they mean stands in specs/,
+// a file for each section.
+mod arcs;
+mod points;
+mod sets;
+mod steps;
+
+/// Most bytes of a file.
+pub const MAX_FILE: usize = 65536;
+/// Most lines of a file.
+pub const MAX_LINES: usize = 1000;
+/// Most bytes of a line, its end not counted.
+pub const MAX_LINE: usize = 256;
+/// The largest coordinate, diameter and radius, in millionths.
+pub const MAX_NUMBER: u32 = 999999999;
+/// The largest tool number.
+pub const MAX_TOOL: u32 = 99;
+/// Lent numbers of a row.
+pub const ROW_WIDTH: usize = 15;
+
+// The refusals, in the order in which they are tested. A line that is not refused has NONE.
+pub const NONE: Refusal = Refusal { number: 0 };
+
+pub const FILE_TOO_LONG: Refusal = Refusal { number: 1 };
+
+pub const TOO_MANY_LINES: Refusal = Refusal { number: 2 };
+
+pub const LINE_NOT_ENDED: Refusal = Refusal { number: 3 };
+
+pub const LINE_TOO_LONG: Refusal = Refusal { number: 6 };
+
+pub const FORBIDDEN_BYTE: Refusal = Refusal { number: 4 };
+
+pub const NO_SUCH_FORM: Refusal = Refusal { number: 5 };
+
+pub const OUT_OF_RANGE: Refusal = Refusal { number: 7 };
+
+pub const WRONG_PHASE: Refusal = Refusal { number: 8 };
+
+pub const WRONG_MOTION: Refusal = Refusal { number: 12 };
+
+pub const DECLARED_ALREADY: Refusal = Refusal { number: 9 };
+
+pub const NOT_DECLARED: Refusal = Refusal { number: 10 };
+
+pub const NO_TOOL_SELECTED: Refusal = Refusal { number: 11 };
+
+pub const IMPOSSIBLE_ARC: Refusal = Refusal { number: 13 };
+
+pub const ENDS_TOO_SOON: Refusal = Refusal { number: 14 };
+
+pub const NO_ROOM: Refusal = Refusal { number: 15 };
+
+pub const NO_SUCH_LINE: Refusal = Refusal { number: 16 };
+
+pub const HOLDS_LINE_END: Refusal = Refusal { number: 17 };
+
+pub const BAD_TABLE: Refusal = Refusal { number: 18 };
 
 /// A place on the board, in millionths of the file's unit.
 pub struct Point {

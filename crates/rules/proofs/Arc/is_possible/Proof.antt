@@ -1,0 +1,22 @@
+-- The points are compared, then the distance with the radius.
+use borrow.Author.Needs.{needs}
+use Rattle.rules.specs.State.{isPossible}
+use Rattle.rules.proofs.Arc.is_possible.Statement.{statement}
+use Rattle.rules.proofs.Arc.is_possible.Tie as tie
+
+same-requires : tie.Need-same-requires
+same-requires c κs = search needs
+
+returns : tie.Need-returns
+unfolding isPossible
+returns c = rw (← c .before .same .ensures, c .if1 .taken)
+
+reaches-requires : tie.Need-reaches-requires
+reaches-requires c κs = search needs
+
+returns-2 : tie.Need-returns-2
+unfolding isPossible
+returns-2 c = rw (← c .before .before .same .ensures, c .before .if1 .left) (c .reaches .ensures)
+
+pub is-possible-spec : {M : Type 1} → statement M
+is-possible-spec = tie.close (tie.spec same-requires returns reaches-requires returns-2)

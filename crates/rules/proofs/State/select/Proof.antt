@@ -1,0 +1,23 @@
+-- The two tests, then the set is asked.
+use borrow.Author.Needs.{needs}
+use Rattle.rules.proofs.Tests.{tests}
+use Rattle.rules.proofs.State.select.Statement.{statement}
+use Rattle.rules.proofs.State.select.Tie as tie
+
+returns : tie.Need-returns
+returns c = search tests
+
+returns-2 : tie.Need-returns-2
+returns-2 c = search tests
+
+has-requires : tie.Need-has-requires
+has-requires c κs = search needs
+
+returns-3 : tie.Need-returns-3
+returns-3 c = search (tests, ← c .before .has .ensures, c .if3 .taken)
+
+returns-4 : tie.Need-returns-4
+returns-4 c = search (tests, ← c .before .has .ensures, c .if3 .left)
+
+pub select-spec : {M : Type 1} → statement M
+select-spec = tie.close (tie.spec returns returns-2 has-requires returns-3 returns-4)

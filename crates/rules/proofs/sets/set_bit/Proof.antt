@@ -1,0 +1,17 @@
+-- The word is the tool's own, or it stays.
+use borrow.Author.Needs.{needs}
+use borrow.Author.Tests.{eq-eqb, ne-eqb}
+use Rattle.rules.proofs.sets.set_bit.Statement.{statement}
+use Rattle.rules.proofs.sets.set_bit.Tie as tie
+
+mask-requires : tie.Need-mask-requires
+mask-requires c κs = search needs
+
+returns : tie.Need-returns
+returns c = search (eq-eqb, c .mask .ensures)
+
+returns-2 : tie.Need-returns-2
+returns-2 c = search ne-eqb
+
+pub set-bit-spec : {M : Type 1} → statement M
+set-bit-spec = tie.close (tie.spec mask-requires returns returns-2)

@@ -1,0 +1,318 @@
+// The state machine: a method for each command, which tests in the order of the refusals and leaves at the first that fails.
+ghost use mathlib.Core.Path.{_≡_};
+ghost use Rattle.rules.specs.State as S;
+use crate::Arc;
+use crate::Command;
+use crate::DECLARED_ALREADY;
+use crate::IMPOSSIBLE_ARC;
+use crate::NO_TOOL_SELECTED;
+use crate::NOT_DECLARED;
+use crate::Next;
+use crate::Point;
+use crate::State;
+use crate::Tools;
+use crate::WRONG_MOTION;
+use crate::WRONG_PHASE;
+
+// Phases: before M48, header without a unit, header with one, body, ended.
+const BEFORE: u32 = 0;
+
+const NO_UNIT: u32 = 1;
+
+const HEADER: u32 = 2;
+
+const BODY: u32 = 3;
+
+const ENDED: u32 = 4;
+
+// Units.
+const METRIC: u32 = 1;
+
+const INCH: u32 = 2;
+
+// Motions: none, drill, rout with the tool up, rout with the tool down.
+const NO_MOTION: u32 = 0;
+
+const DRILL: u32 = 1;
+
+const TOOL_UP: u32 = 2;
+
+const TOOL_DOWN: u32 = 3;
+
+// No tool is selected.
+const NO_TOOL: u32 = 0;
+
+impl State {
+    /// The state before the first line.
+    pub fn new() -> State
+        ensures { λ r. ⌜ r ≡ S.start ⌝ }
+    {
+        State {
+            phase: BEFORE,
+            unit: 0,
+            motion: NO_MOTION,
+            tool: NO_TOOL,
+            at: Point { x: 0, y: 0 },
+            tools: Tools {
+                a: 0,
+                b: 0,
+                c: 0,
+                d: 0,
+            },
+        }
+    }
+
+    pub fn comment(self) -> Next
+        ensures { λ r. ⌜ r ≡ S.comment self ⌝ }
+    {
+        if self.phase >= ENDED {
+            return Next::No(WRONG_PHASE);
+        }
+        Next::To(self)
+    }
+
+    pub fn m48(mut self) -> Next
+        ensures { λ r. ⌜ r ≡ S.m48 self ⌝ }
+    {
+        if self.phase != BEFORE {
+            return Next::No(WRONG_PHASE);
+        }
+        self.phase = NO_UNIT;
+        Next::To(self)
+    }
+
+    /// METRIC, which is unit 1, and INCH, which is unit 2.
+    pub fn unit(mut self, u: u32) -> Next
+        ensures { λ r. ⌜ r ≡ S.unit self u ⌝ }
+    {
+        if self.phase != NO_UNIT {
+            return Next::No(WRONG_PHASE);
+        }
+        self.phase = HEADER;
+        self.unit = u;
+        Next::To(self)
+    }
+
+    /// A declaration of tool t. Its diameter is kept by its row, not by the state.
+    pub fn declare(mut self, t: u32) -> Next
+        ensures { λ r. ⌜ r ≡ S.declare self t ⌝ }
+    {
+        if self.phase != HEADER {
+            return Next::No(WRONG_PHASE);
+        }
+        let declared = self.tools;
+        if declared.has(t) {
+            return Next::No(DECLARED_ALREADY);
+        }
+        let more = declared.insert(t);
+        self.tools = more;
+        Next::To(self)
+    }
+
+    pub fn percent(mut self) -> Next
+        ensures { λ r. ⌜ r ≡ S.percent self ⌝ }
+    {
+        if self.phase != HEADER {
+            return Next::No(WRONG_PHASE);
+        }
+        self.phase = BODY;
+        Next::To(self)
+    }
+
+    pub fn select(mut self, t: u32) -> Next
+        ensures { λ r. ⌜ r ≡ S.select self t ⌝ }
+    {
+        if self.phase != BODY {
+            return Next::No(WRONG_PHASE);
+        }
+        if self.motion == TOOL_DOWN {
+            return Next::No(WRONG_MOTION);
+        }
+        let tools = self.tools;
+        if tools.has(t) {
+            self.tool = t;
+            return Next::To(self);
+        }
+        Next::No(NOT_DECLARED)
+    }
+
+    /// Drill mode begins at the origin.
+    pub fn g05(mut self) -> Next
+        ensures { λ r. ⌜ r ≡ S.g05 self ⌝ }
+    {
+        if self.phase != BODY {
+            return Next::No(WRONG_PHASE);
+        }
+        if self.motion == TOOL_DOWN {
+            return Next::No(WRONG_MOTION);
+        }
+        self.motion = DRILL;
+        let origin = Point { x: 0, y: 0 };
+        self.at = origin;
+        Next::To(self)
+    }
+
+    /// Rout mode begins at p, with the tool up.
+    pub fn g00(mut self, p: Point) -> Next
+        ensures { λ r. ⌜ r ≡ S.g00 self p ⌝ }
+    {
+        if self.phase != BODY {
+            return Next::No(WRONG_PHASE);
+        }
+        if self.motion == TOOL_DOWN {
+            return Next::No(WRONG_MOTION);
+        }
+        self.motion = TOOL_UP;
+        self.at = p;
+        Next::To(self)
+    }
+
+    /// A hit leaves the point as it is: its own place stands in its row.
+    pub fn hit(self) -> Next
+        ensures { λ r. ⌜ r ≡ S.hit self ⌝ }
+    {
+        if self.phase != BODY {
+            return Next::No(WRONG_PHASE);
+        }
+        if self.motion != DRILL {
+            return Next::No(WRONG_MOTION);
+        }
+        if self.tool == NO_TOOL { // nothing to drill with
+            return Next::No(NO_TOOL_SELECTED);
+        }
+        Next::To(self)
+    }
+
+    /// Tool down.
+    pub fn m15(mut self) -> Next
+        ensures { λ r. ⌜ r ≡ S.m15 self ⌝ }
+    {
+        if self.phase != BODY {
+            return Next::No(WRONG_PHASE);
+        }
+        if self.motion != TOOL_UP {
+            return Next::No(WRONG_MOTION);
+        }
+        if self.tool == NO_TOOL {
+            return Next::No(NO_TOOL_SELECTED);
+        }
+        self.motion = TOOL_DOWN;
+        Next::To(self)
+    }
+
+    /// Tool up.
+    pub fn m16(mut self) -> Next
+        ensures { λ r. ⌜ r ≡ S.m16 self ⌝ }
+    {
+        if self.phase != BODY {
+            return Next::No(WRONG_PHASE);
+        }
+        if self.motion != TOOL_DOWN {
+            return Next::No(WRONG_MOTION);
+        }
+        self.motion = TOOL_UP;
+        Next::To(self)
+    }
+
+    /// A straight rout to p.
+    pub fn g01(mut self, p: Point) -> Next
+        ensures { λ r. ⌜ r ≡ S.g01 self p ⌝ }
+    {
+        if self.phase != BODY {
+            return Next::No(WRONG_PHASE);
+        }
+        if self.motion != TOOL_DOWN { // with the tool up it is G00
+            return Next::No(WRONG_MOTION);
+        }
+        self.at = p;
+        Next::To(self)
+    }
+
+    /// A rout along an arc, G02 or G03.
+    pub fn arc(mut self, a: Arc) -> Next
+        ensures { λ r. ⌜ r ≡ S.arc self a ⌝ }
+    {
+        if self.phase != BODY {
+            return Next::No(WRONG_PHASE);
+        }
+        if self.motion != TOOL_DOWN {
+            return Next::No(WRONG_MOTION);
+        }
+        let from = self.at;
+        if a.is_possible(from) {
+            let to = a.to;
+            self.at = to;
+            return Next::To(self);
+        }
+        Next::No(IMPOSSIBLE_ARC)
+    }
+
+    pub fn m30(mut self) -> Next
+        ensures { λ r. ⌜ r ≡ S.m30 self ⌝ }
+    {
+        if self.phase != BODY {
+            return Next::No(WRONG_PHASE);
+        }
+        if self.motion == TOOL_DOWN { // the run ends with the tool up
+            return Next::No(WRONG_MOTION);
+        }
+        self.phase = ENDED;
+        Next::To(self)
+    }
+
+    /// The state after a command, or why the command may not come here.
+    pub fn step(self, c: Command) -> Next
+        ensures { λ r. ⌜ r ≡ S.step self c ⌝ }
+    {
+        match c {
+            Command::Comment => self.comment(),
+            Command::M48 => self.m48(),
+            Command::Metric => self.unit(METRIC),
+            Command::Inch => self.unit(INCH),
+            Command::Declare(t, _) => self.declare(t),
+            Command::Percent => self.percent(),
+            Command::G05 => self.g05(),
+            Command::G00(p) => self.g00(p),
+            Command::Select(t) => self.select(t),
+            Command::Hit(_) => self.hit(),
+            Command::M15 => self.m15(),
+            Command::M16 => self.m16(),
+            Command::G01(p) => self.g01(p),
+            Command::G02(a) => self.arc(a),
+            Command::G03(a) => self.arc(a),
+            Command::M30 => self.m30(),
+        }
+    }
+
+    pub fn has_ended(self) -> bool
+        ensures { λ r. ⌜ r ≡ S.hasEnded self ⌝ }
+    {
+        self.phase == ENDED
+    }
+
+    /// Whether two states agree in all ten numbers.
+    pub fn same(self, other: State) -> bool
+        ensures { λ r. ⌜ r ≡ S.sameState self other ⌝ }
+    {
+        if self.phase != other.phase {
+            return false;
+        }
+        if self.unit != other.unit {
+            return false;
+        }
+        if self.motion != other.motion {
+            return false;
+        }
+        if self.tool != other.tool {
+            return false;
+        }
+        let here = self.at;
+        let there = other.at;
+        if here.same(there) {
+            let ours = self.tools;
+            let theirs = other.tools;
+            return ours.same(theirs);
+        }
+        false
+    }
+}
