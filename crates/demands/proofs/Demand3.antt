@@ -1,0 +1,96 @@
+-- Demand 3. A fresh reading of the edited file runs the lines before the edited one to the same state, then does what the
+-- edit's rerun does, and from the meeting line on is the old reading: equal states, equal lines left.
+use mathlib.Core.Path.{_≡_, refl, sym, ap, _∙_, subst₂}
+use mathlib.Core.Bool.{true}
+use mathlib.Core.List.{List, _++_}
+use Prim.Native.Nat.{ℕ, _+_, _-_, _*_, _≤_}
+use native.Mathlib.Omega.{arith}
+use lib.IntN.{ℤ}
+use lib.ListN.{length, drop, length-append}
+use Rattle.lists.specs.Put.{putAt}
+use Rattle.runs.specs.Machine.{Verdict, accepted, refused, allHold, Span}
+use Rattle.rules.specs.declared.Command.{Command}
+use Rattle.rules.specs.declared.State.{State}
+use Rattle.rules.specs.declared.Refusal.{Refusal}
+use Rattle.rules.specs.declared.Answer.{Answer}
+use Rattle.rules.specs.declared.Answer.the-variants.{Done, Refused}
+use Rattle.rules.specs.Numbers.{maxFile}
+use Rattle.rules.specs.Rows.{tableNumbers}
+use Rattle.rules.specs.Reading.{Rows, fileOf, readAnswer, readLeaves}
+use Rattle.rules.specs.Editing.{noLineEnd, editRows, editAnswer, editLeaves}
+use Rattle.rules.proofs.Keeps.{start-ok}
+use Rattle.table.proofs.Entries.{RowsOk, table-length}
+use Rattle.demands.specs.EditedFile.{LineOf, edited}
+use Rattle.demands.specs.Demand3.{SameVerdict, SpanIs, AsReadAfresh}
+use Rattle.demands.proofs.InRange.{reads-ok}
+use Rattle.demands.proofs.AcceptedFile.{read-done, file-run, file-of, file-accepts, file-few, read-accepts, read-writes, read-refuses}
+use Rattle.demands.proofs.EditRows.{edit-agreement}
+use Rattle.demands.proofs.EditIsReading.{withSpan, edit-is-reading, line-from, line-upto}
+use Rattle.demands.proofs.EditTable.{table-again, edit-refuses, edit-accepts, edit-writes, new-length, same-outside}
+
+pub file-ok : (bs : List ℕ) (rs : Rows) → fileOf bs ≡ accepted rs → RowsOk rs
+file-ok bs rs h = reads-ok (file-accepts bs rs h .reads) start-ok
+
+-- the table of an accepted file, whatever stands after its rows
+module _ {bs : List ℕ} {k : ℕ} (w : LineOf bs k) (rs : Rows) (read : fileOf bs ≡ accepted rs) (l : List ℕ) (hl : noLineEnd l ≡ true)
+    (hb : length (edited w l) ≤ maxFile) (rest : List ℤ) where
+  fresh : fileOf (edited w l) ≡ withSpan rs k (editRows (allHold rs) k l)
+  fresh = file-of (edited w l) hb ∙ edit-is-reading w rs (file-run bs rs read) l hl
+
+  from : 1 ≤ k
+  from = line-from w rs (file-run bs rs read) l hl
+
+  upto : k ≤ length rs
+  upto = line-upto w rs (file-run bs rs read) l hl
+
+  -- a table u, of which the edit's answer is a and the numbers it leaves v
+  AsAfresh : List ℤ → List ℤ → Answer → Type 0
+  AsAfresh u v a = SameVerdict (length rs) a (readAnswer (edited w l) u) × (v ≡ readLeaves (edited w l) u) × SpanIs bs (edited w l) u v (length rs) k a
+
+  as-refused : (e : Refusal) (i : ℕ) → editRows (allHold rs) k l ≡ refused e i
+      → AsAfresh (tableNumbers rs ++ rest) (tableNumbers rs ++ rest) (Refused e i)
+  unfolding AsAfresh
+  as-refused e i h =
+      let r = read-refuses (edited w l) (tableNumbers rs ++ rest) e i (fresh ∙ ap (withSpan rs k) h) in
+      (r .0, sym (r .1), refl)
+
+  as-accepted : (s : Span Command State) → editRows (allHold rs) k l ≡ accepted s
+      → AsAfresh (tableNumbers rs ++ rest) (tableNumbers (putAt rs (k - 1) (s .rows)) ++ rest) (Done (s .meeting))
+  unfolding AsAfresh
+  as-accepted s h =
+      let new : Rows = putAt rs (k - 1) (s .rows) in
+      let f : fileOf (edited w l) ≡ accepted new = fresh ∙ ap (withSpan rs k) h in
+      let n : length new ≡ length rs
+      = new-length rs rest (file-ok bs rs read) (file-few bs rs read) k from upto l hl s h in
+      let room : 15 * length new ≤ length (tableNumbers rs ++ rest) = omega (arith, n, table-length rs, length-append (tableNumbers rs) rest) in (
+        read-accepts (edited w l) (tableNumbers rs ++ rest) new f room ∙ ap Done n,
+        sym (read-writes (edited w l) (tableNumbers rs ++ rest) new f room ∙ table-again rs new rest n),
+        (
+          record { old = rs; new = new; read-old = read; read-new = f; first = edit-agreement rs k from upto l s h },
+          same-outside rs rest (file-ok bs rs read) (file-few bs rs read) k from upto l hl s h (file-ok (edited w l) new f),
+        ),
+      )
+
+  as-afresh : (v : Verdict (Span Command State) Refusal) → editRows (allHold rs) k l ≡ v
+      → AsAfresh (tableNumbers rs ++ rest) (editLeaves (tableNumbers rs ++ rest) (length rs) k l) (editAnswer (tableNumbers rs ++ rest) (length rs) k l)
+  as-afresh (refused e i) h =
+      let r = edit-refuses rs rest (file-ok bs rs read) (file-few bs rs read) k from upto l hl e i h in
+      subst₂ (AsAfresh (tableNumbers rs ++ rest)) (sym (r .1)) (sym (r .0)) (as-refused e i h)
+  as-afresh (accepted s) h =
+      subst₂ (AsAfresh (tableNumbers rs ++ rest))
+      (sym (edit-writes rs rest (file-ok bs rs read) (file-few bs rs read) k from upto l hl s h))
+      (sym (edit-accepts rs rest (file-ok bs rs read) (file-few bs rs read) k from upto l hl s h))
+      (as-accepted s h)
+
+  whole : AsReadAfresh bs (edited w l) (tableNumbers rs ++ rest) (length rs) k l
+  unfolding AsAfresh
+  whole = let a = as-afresh (editRows (allHold rs) k l) refl in record { verdict = a .0; table = a .1; span = a .2 }
+
+-- line k of an accepted file gets the text l, which holds no line end, and the file stays short enough
+pub demand-3 : (bs : List ℕ) (t : List ℤ) (n : ℕ) → readAnswer bs t ≡ Done n → {k : ℕ} (w : LineOf bs k) (l : List ℕ) → noLineEnd l ≡ true
+    → length (edited w l) ≤ maxFile → AsReadAfresh bs (edited w l) (readLeaves bs t) n k l
+demand-3 bs t n h {k} w l hl hb =
+    let d = read-done bs t n h in
+    subst₂ (λ (u : List ℤ) (m : ℕ). AsReadAfresh bs (edited w l) u m k l)
+    (sym (read-writes bs t (d .rows) (d .read) (d .room))) (d .counted)
+    (whole w (d .rows) (d .read) l hl hb (drop (0 + length (tableNumbers (d .rows))) t))

@@ -1,0 +1,164 @@
+-- An edit in the numbers of a table: the rows of its span are written in place of as many old ones, so the numbers are
+-- those of the new rows, and rows, numbers and holes outside the span are as they were.
+use mathlib.Core.Path.{_≡_, refl, sym, ap, _∙_}
+use mathlib.Core.Bool.{Bool, true, false}
+use mathlib.Core.List.{List, _++_, append-assoc}
+use Prim.Native.Nat.{ℕ, _+_, _-_, _*_, _/_, _≤_}
+use native.Mathlib.Omega.{arith}
+use borrow.Author.Tests.{le-leb, leb-true}
+use lib.Dec.{leb}
+use lib.IntN.{ℤ}
+use lib.ListN.{length, take, drop, length-append, take-append-drop}
+use lib.Seq.{take-at, drop-at, length-take-le}
+use Rattle.lists.specs.Choice.{pick}
+use Rattle.lists.specs.Put.{putAt}
+use Rattle.lists.proofs.Choice.{both}
+use Rattle.lists.proofs.Put.{put-length, put-before, put-after}
+use Rattle.runs.specs.Machine.{accepted, refused, allHold, Span}
+use Rattle.runs.specs.Agreement.{FirstAgreement}
+use Rattle.rules.specs.declared.Command.{Command}
+use Rattle.rules.specs.declared.State.{State}
+use Rattle.rules.specs.declared.Refusal.{Refusal}
+use Rattle.rules.specs.declared.Answer.the-variants.{Done, Refused}
+use Rattle.rules.specs.declared.HoleAnswer.the-variants as H
+use Rattle.rules.specs.Refusals.{noSuchLine}
+use Rattle.rules.specs.Numbers.{maxLines}
+use Rattle.rules.specs.State.{start}
+use Rattle.rules.specs.Rows.{rowWidth, tableNumbers, sizesFit}
+use Rattle.rules.specs.Reading.{Rows}
+use Rattle.rules.specs.Editing.{isLine, noLineEnd, editRows, editOf, editAnswer, editLeaves}
+use Rattle.rules.specs.Asking.{holeIn, holeAnswer}
+use Rattle.table.proofs.Entries.{RowsOk, table-length, table-append, entries-table}
+use Rattle.demands.specs.Demand3.{SameOutside}
+use Rattle.demands.proofs.EditRows.{edit-agreement, edit-counted}
+use Rattle.demands.proofs.SameHoles.{hole-first, hole-rest}
+
+-- ---- sizes
+
+pick-same {ℓ} : {A : Type ℓ} (t : Bool) {a b : A} (c : A) → (t ≡ true → a ≡ b) → pick t a c ≡ pick t b c
+pick-same true c f = f refl
+pick-same false c f = refl
+
+pub line-says : (n k : ℕ) → isLine n k ≡ true → (1 ≤ k) × (k ≤ n)
+unfolding isLine
+line-says n k h = let p = both (leb 1 k) (leb k n) h in (leb-true 1 k (p .0), leb-true k n (p .1))
+
+pub line-is : (n k : ℕ) → 1 ≤ k → k ≤ n → isLine n k ≡ true
+unfolding isLine
+line-is n k a b = rw (le-leb 1 k a, le-leb k n b)
+
+pub record Sizes (t : List ℤ) (n : ℕ) : Type 0 where
+  pub some : 1 ≤ n
+  pub few : n ≤ maxLines
+  pub room : rowWidth * n ≤ length t
+
+pub sizes-fit : (t : List ℤ) (n : ℕ) → Sizes t n → sizesFit t n ≡ true
+unfolding sizesFit
+sizes-fit t n z = rw (le-leb 1 n (z .some), le-leb n maxLines (z .few), le-leb n (length t / 15) (omega (arith, z .room)))
+
+pub sizes-say : (t : List ℤ) (n : ℕ) → sizesFit t n ≡ true → Sizes t n
+unfolding sizesFit
+sizes-say t n h =
+    let p = both (leb 1 n) _ h in
+    let q = both (leb n maxLines) _ (p .1) in
+    record { some = leb-true 1 n (p .0); few = leb-true n maxLines (q .0); room = omega (arith, leb-true n (length t / 15) (q .1)) }
+
+-- ---- rows in the place of others
+
+module _ (rs : Rows) (rest : List ℤ) (j : ℕ) (h : j ≤ length rs) where
+  parted : tableNumbers rs ++ rest ≡ tableNumbers (take j rs) ++ (tableNumbers (drop j rs) ++ rest)
+  parted =
+      ap (λ (z : Rows). tableNumbers z ++ rest) (sym (take-append-drop j rs)) ∙ ap (λ (z : List ℤ). z ++ rest) (table-append (take j rs) (drop j rs))
+      ∙ append-assoc (tableNumbers (take j rs)) (tableNumbers (drop j rs)) rest
+
+  first-length : length (tableNumbers (take j rs)) ≡ 15 * j
+  first-length = table-length (take j rs) ∙ ap (λ (n : ℕ). 15 * n) (length-take-le j rs h)
+
+  take-table : take (15 * j) (tableNumbers rs ++ rest) ≡ tableNumbers (take j rs)
+  take-table = ap (take (15 * j)) parted ∙ take-at (tableNumbers (take j rs)) (tableNumbers (drop j rs) ++ rest) (15 * j) first-length
+
+  drop-table : drop (15 * j) (tableNumbers rs ++ rest) ≡ tableNumbers (drop j rs) ++ rest
+  drop-table = ap (drop (15 * j)) parted ∙ drop-at (tableNumbers (take j rs)) (tableNumbers (drop j rs) ++ rest) (15 * j) first-length
+
+pub table-put : (rs ns : Rows) (rest : List ℤ) (j : ℕ) → j + length ns ≤ length rs
+    → putAt (tableNumbers rs ++ rest) (15 * j) (tableNumbers ns) ≡ tableNumbers (putAt rs j ns) ++ rest
+table-put rs ns rest j h =
+    let n : 15 * j + length (tableNumbers ns) ≡ 15 * (j + length ns) = omega (arith, table-length ns) in
+    rw (take-table rs rest j (omega arith), n, drop-table rs rest (j + length ns) h)
+    (sym (append-assoc (tableNumbers (take j rs) ++ tableNumbers ns) (tableNumbers (drop (j + length ns) rs)) rest)
+    ∙ ap (λ (z : List ℤ). z ++ tableNumbers (drop (j + length ns) rs) ++ rest) (sym (table-append (take j rs) ns))
+    ∙ ap (λ (z : List ℤ). z ++ rest) (sym (table-append (take j rs ++ ns) (drop (j + length ns) rs))))
+
+-- as many rows in the place of all
+pub table-again : (rs ns : Rows) (rest : List ℤ) → length ns ≡ length rs → putAt (tableNumbers rs ++ rest) 0 (tableNumbers ns) ≡ tableNumbers ns ++ rest
+table-again rs ns rest e =
+    ap (λ (z : List ℤ). tableNumbers ns ++ z)
+    (drop-at (tableNumbers rs) rest (0 + length (tableNumbers ns)) (omega (arith, table-length rs, table-length ns)))
+
+-- ---- the edit of line k in a table of whole rows
+
+module _ (rs : Rows) (rest : List ℤ) (ok : RowsOk rs) (few : length rs ≤ maxLines) (k : ℕ) (a : 1 ≤ k) (b : k ≤ length rs) (l : List ℕ) (hl : noLineEnd l ≡ true) where
+  sizes : (ns : Rows) → length ns ≡ length rs → Sizes (tableNumbers ns ++ rest) (length rs)
+  sizes ns e = record { some = omega arith; few = few; room = omega (arith, table-length ns, length-append (tableNumbers ns) rest) }
+
+  edit-of : editOf (tableNumbers rs ++ rest) (length rs) k l ≡ editRows (allHold rs) k l
+  unfolding editOf
+  edit-of = rw (sizes-fit (tableNumbers rs ++ rest) (length rs) (sizes rs refl), line-is (length rs) k a b, hl, entries-table rs rest ok)
+
+  pub edit-refuses : (e : Refusal) (i : ℕ) → editRows (allHold rs) k l ≡ refused e i
+      → (editAnswer (tableNumbers rs ++ rest) (length rs) k l ≡ Refused e i) × (editLeaves (tableNumbers rs ++ rest) (length rs) k l ≡ tableNumbers rs ++ rest)
+  unfolding editAnswer editLeaves
+  edit-refuses e i h = (rw (edit-of, h), rw (edit-of, h))
+
+  module _ (s : Span Command State) (h : editRows (allHold rs) k l ≡ accepted s) where
+    meets : FirstAgreement start rs (putAt rs (k - 1) (s .rows)) k (s .meeting)
+    meets = edit-agreement rs k a b l s h
+
+    counted : s .meeting ≡ k - 1 + length (s .rows)
+    counted = edit-counted rs k a b l s h
+
+    inside : k - 1 + length (s .rows) ≤ length rs
+    inside = omega (arith, counted, meets .upto)
+
+    pub new-length : length (putAt rs (k - 1) (s .rows)) ≡ length rs
+    new-length = put-length rs (k - 1) (s .rows) inside
+
+    pub edit-accepts : editAnswer (tableNumbers rs ++ rest) (length rs) k l ≡ Done (s .meeting)
+    unfolding editAnswer
+    edit-accepts = rw (edit-of, h)
+
+    pub edit-writes : editLeaves (tableNumbers rs ++ rest) (length rs) k l ≡ tableNumbers (putAt rs (k - 1) (s .rows)) ++ rest
+    unfolding editLeaves
+    edit-writes = rw (edit-of, h) (table-put rs (s .rows) rest (k - 1) inside)
+
+    -- ---- outside the span
+
+    hole-answer : (ns : Rows) → length ns ≡ length rs → RowsOk ns → (j : ℕ)
+        → holeAnswer (tableNumbers ns ++ rest) (length rs) j ≡ pick (isLine (length rs) j) (holeIn (allHold ns) j) (H.Refused noSuchLine 0)
+    unfolding holeAnswer
+    hole-answer ns e g j =
+        rw (sizes-fit (tableNumbers ns ++ rest) (length rs) (sizes ns e), rw e at (entries-table ns rest g))
+
+    module _ (g : RowsOk (putAt rs (k - 1) (s .rows))) where
+      same-hole : (j : ℕ) → (1 ≤ j → j ≤ length rs → holeIn (allHold (putAt rs (k - 1) (s .rows))) j ≡ holeIn (allHold rs) j)
+          → holeAnswer (tableNumbers (putAt rs (k - 1) (s .rows)) ++ rest) (length rs) j ≡ holeAnswer (tableNumbers rs ++ rest) (length rs) j
+      same-hole j f =
+          hole-answer (putAt rs (k - 1) (s .rows)) new-length g j
+          ∙ pick-same (isLine (length rs) j) (H.Refused noSuchLine 0) (λ t. let p = line-says (length rs) j t in f (p .0) (p .1))
+          ∙ sym (hole-answer rs refl ok j)
+
+      pub same-outside : SameOutside (tableNumbers rs ++ rest) (tableNumbers (putAt rs (k - 1) (s .rows)) ++ rest) (length rs) k (s .meeting)
+      same-outside =
+          let first : take (k - 1) (putAt rs (k - 1) (s .rows)) ≡ take (k - 1) rs = put-before rs (k - 1) (s .rows) (omega arith) in
+          let after : drop (s .meeting) (putAt rs (k - 1) (s .rows)) ≡ drop (s .meeting) rs
+          = put-after rs (k - 1) (s .meeting) (s .rows) (omega (arith, counted)) (meets .upto) in
+          record {
+            numbers-before =
+                take-table (putAt rs (k - 1) (s .rows)) rest (k - 1) (omega (arith, new-length)) ∙ ap tableNumbers first
+                ∙ sym (take-table rs rest (k - 1) (omega arith));
+            numbers-after =
+                drop-table (putAt rs (k - 1) (s .rows)) rest (s .meeting) (omega (arith, new-length, meets .upto)) ∙ ap (λ (z : Rows). tableNumbers z ++ rest) after
+                ∙ sym (drop-table rs rest (s .meeting) (meets .upto));
+            holes-before = λ j n. same-hole j (λ p q. hole-first rs (putAt rs (k - 1) (s .rows)) new-length j p q (k - 1) first (omega arith));
+            holes-after = λ j n. same-hole j (λ p q. hole-rest rs (putAt rs (k - 1) (s .rows)) new-length j p q (s .meeting) after (sym (meets .agrees (omega arith))) n);
+          }

@@ -1,0 +1,10 @@
+pub mod EditedLines
+pub mod InRange
+pub mod EditRows
+pub mod EditIsReading
+pub mod SameHoles
+pub mod EditTable
+pub mod AcceptedFile
+pub mod Demand3
+pub mod GoodStays
+pub mod EveryLine

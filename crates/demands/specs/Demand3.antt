@@ -1,0 +1,47 @@
+-- Demand 3: an edit of an accepted file answers as a fresh reading of the edited file does, and leaves the table that the
+-- fresh reading leaves; its meeting line is the first agreement of states, and nothing outside its span changes.
+use mathlib.Core.Path.{_≡_}
+use mathlib.Core.List.{List}
+use Prim.Native.Nat.{ℕ, _-_, _*_, _<_}
+use lib.IntN.{ℤ}
+use lib.ListN.{take, drop}
+use Rattle.runs.specs.Machine.{accepted}
+use Rattle.runs.specs.Agreement.{FirstAgreement}
+use Rattle.rules.specs.declared.Answer.{Answer}
+use Rattle.rules.specs.declared.Answer.the-variants.{Done, Refused}
+use Rattle.rules.specs.State.{start}
+use Rattle.rules.specs.Rows.{rowWidth}
+use Rattle.rules.specs.Reading.{Rows, fileOf, readAnswer, readLeaves}
+use Rattle.rules.specs.Editing.{editAnswer, editLeaves}
+use Rattle.rules.specs.Asking.{holeAnswer}
+
+-- an edit's answer, and a fresh reading's: the same refusal at the same line, or n lines read
+abbrev pub SameVerdict : ℕ → Answer → Answer → Type 0
+SameVerdict n (Refused e i) fresh = fresh ≡ Refused e i
+SameVerdict n (Done m) fresh = fresh ≡ Done n
+
+-- m is the first line, from line k on, after which the states of two accepted files agree in all ten numbers, or the last
+pub record MeetsAt (old-file new-file : List ℕ) (k m : ℕ) : Type 0 where
+  pub old : Rows
+  pub new : Rows
+  pub read-old : fileOf old-file ≡ accepted old
+  pub read-new : fileOf new-file ≡ accepted new
+  pub first : FirstAgreement start old new k m
+
+-- of two tables of n rows: the numbers of rows outside k to m, all beyond the rows, and the holes of lines outside k to m
+pub record SameOutside (t u : List ℤ) (n k m : ℕ) : Type 0 where
+  pub numbers-before : take (rowWidth * (k - 1)) u ≡ take (rowWidth * (k - 1)) t
+  pub numbers-after : drop (rowWidth * m) u ≡ drop (rowWidth * m) t
+  pub holes-before : (j : ℕ) → j < k → holeAnswer u n j ≡ holeAnswer t n j
+  pub holes-after : (j : ℕ) → m < j → holeAnswer u n j ≡ holeAnswer t n j
+
+-- an accepted edit's span; a refused edit changes nothing
+abbrev pub SpanIs : (old-file new-file : List ℕ) → (t u : List ℤ) → (n k : ℕ) → Answer → Type 0
+SpanIs old-file new-file t u n k (Refused e i) = u ≡ t
+SpanIs old-file new-file t u n k (Done m) = MeetsAt old-file new-file k m × SameOutside t u n k m
+
+-- line k of the old file, whose table of n rows is t, gets the text l; the new file is the old one so edited
+pub record AsReadAfresh (old-file new-file : List ℕ) (t : List ℤ) (n k : ℕ) (l : List ℕ) : Type 0 where
+  pub verdict : SameVerdict n (editAnswer t n k l) (readAnswer new-file t)
+  pub table : editLeaves t n k l ≡ readLeaves new-file t
+  pub span : SpanIs old-file new-file t (editLeaves t n k l) n k (editAnswer t n k l)

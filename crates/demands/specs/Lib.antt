@@ -1,0 +1,3 @@
+pub mod EditedFile
+pub mod Demand3
+pub mod GoodTable

@@ -1,0 +1,17 @@
+-- Two runs compared: the state after a line, and the first line after which the states of both agree.
+use mathlib.Core.Path.{_≡_}
+use mathlib.Core.List.{List}
+use Prim.Native.Nat.{ℕ, _<_, _≤_}
+use lib.ListN.{length, take}
+use Rattle.runs.specs.Machine.{Row, lastOf}
+
+-- the state after line m of some rows; after line 0 it is the state they start from
+abbrev pub stateAfter : {C S : Type 0} → S → List (Row C S) → ℕ → S
+stateAfter p rs m = lastOf p (take m rs)
+
+-- m is the first line, from line k on, after which old and new states agree, or the last line
+pub record FirstAgreement {C S : Type 0} (p : S) (old new : List (Row C S)) (k m : ℕ) : Type 0 where
+  pub from : k ≤ m
+  pub upto : m ≤ length old
+  pub differ : (j : ℕ) → k ≤ j → j < m → stateAfter p old j ≡ stateAfter p new j → ⊥
+  pub agrees : m < length old → stateAfter p old m ≡ stateAfter p new m

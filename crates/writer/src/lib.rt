@@ -1,0 +1,3 @@
+// The writer: text in lent bytes, each byte straight at its place.
+mod lines;
+mod numbers;
