@@ -7,8 +7,8 @@ ghost use Rattle.rules.specs.State as S;
 use crate::Arc;
 use crate::Point;
 
-// How far a and b are apart. The difference is signed and widened; its size is below 2^32, so that its square fits 64 bits.
-fn distance(a: i32, b: i32) -> u64
+/// How far a and b are apart. The difference is signed and widened; its size is below 2^32, so that its square fits 64 bits.
+pub fn distance(a: i32, b: i32) -> u64
     ensures { λ r. ⌜ (r ≡ natAbs (a -ℤ b)) × (r ≤ 4294967295) ⌝ }
 {
     let d = (a as i64) - (b as i64);

@@ -5,6 +5,8 @@ mod points;
 mod sets;
 mod steps;
 
+pub use arcs::distance;
+
 /// Most bytes of a file.
 pub const MAX_FILE: usize = 65536;
 /// Most lines of a file.

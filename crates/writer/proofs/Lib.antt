@@ -1,4 +1,6 @@
+pub mod Answers
 pub mod Digits
 pub mod Lengths
 pub mod Parts
 pub mod Signs
+pub mod Walk

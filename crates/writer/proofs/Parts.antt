@@ -22,11 +22,14 @@ module _ {b b₁ : List ℕ} {at r₁ : ℕ} {xs : List ℕ} (w : Wrote b at xs 
     end = omega (arith, length-append xs ys, w .end, v .end);
   }
 
+  pub wrote-length : at + length xs ≤ length b → length b₁ ≡ length b
+  wrote-length h = ap length (w .bytes) ∙ put-length b at xs h
+
   -- the room after the first part
-  room-left : (ys : List ℕ) → at + length (xs ++ ys) ≤ length b → r₁ + length ys ≤ length b₁
+  pub room-left : (ys : List ℕ) → at + length (xs ++ ys) ≤ length b → r₁ + length ys ≤ length b₁
   room-left ys h =
       let k : at + length xs + length ys ≤ length b = omega (arith, length-append xs ys) in
-      let e : length b₁ ≡ length b = ap length (w .bytes) ∙ put-length b at xs (omega arith) in
+      let e : length b₁ ≡ length b = wrote-length (omega arith) in
       omega (arith, w .end)
 
 pub wrote-three : {b b₁ b₂ b₃ : List ℕ} {at r₁ r₂ r₃ : ℕ} {xs ys zs : List ℕ} → Wrote b at xs b₁ r₁ → Wrote b₁ r₁ ys b₂ r₂ → Wrote b₂ r₂ zs b₃ r₃
