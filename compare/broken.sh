@@ -1,0 +1,287 @@
+#!/bin/bash
+# Tries the comparison on broken copies: in each, one mistake is put into a
+# copy of plain Rust, which is then compared with the true one. The comparison
+# must fail on every copy (and pass on the unchanged one).
+#
+#   compare/broken.sh [COUNT]      comparisons for each copy, 100000 unless given
+set -euo pipefail
+
+here=$(cd "$(dirname "$0")" && pwd)
+count=${1:-100000}
+out=$(mktemp -d)
+trap 'rm -rf "$out"' EXIT
+
+"$here/build.sh" selftest "$out"
+"$out/compare" "$count" | tail -n 1
+
+source=$(<"$here/plain/src/lib.rs")
+source=${source/"#[cfg(test)]
+mod tests;"/}
+broken=0
+missed=0
+
+# mistake NAME OLD NEW: the first OLD in the source becomes NEW.
+mistake() {
+    local changed=${source/"$2"/"$3"}
+    if [ "$changed" = "$source" ]; then
+        echo "no such text: $1"
+        missed=$((missed + 1))
+        return
+    fi
+    printf '%s\n' "$changed" >"$out/lib.rs"
+    "${RUSTC:-rustc}" --edition 2021 -O -A warnings --crate-type rlib --crate-name subject \
+        "$out/lib.rs" -o "$out/libsubject.rlib"
+    "${RUSTC:-rustc}" --edition 2021 -C opt-level=1 --cfg selftest --crate-name compare "$here/src/main.rs" \
+        --extern "plain=$out/libplain.rlib" --extern "subject=$out/libsubject.rlib" -o "$out/compare"
+    broken=$((broken + 1))
+    if "$out/compare" "$count" >"$out/said" || ! tail -n 1 "$out/said" | grep -q 'compared, [1-9]'; then
+        echo "MISSED: $1"
+        missed=$((missed + 1))
+    else
+        printf '%-58s %s\n' "$1" "$(tail -n 1 "$out/said")"
+    fi
+}
+
+# Numbers and forms.
+mistake 'whole part capped too low' '.min(1_000)' '.min(999)'
+mistake 'whole part wraps' 'value = (value * 10 + u32::from(digit - b'\''0'\'')).min(1_000);' \
+    'value = value.wrapping_mul(10).wrapping_add(u32::from(digit - b'\''0'\'')) & 0xFFF_FFFF;'
+mistake 'seventh decimal dropped' 'match SCALE.get(decimals)' 'match SCALE.get(decimals.min(6))'
+mistake 'largest number refused' 'value * scale <= MAX as u32' 'value * scale < MAX as u32'
+mistake 'a point without digits' 'if digits == 0 {' 'if digits == 0 && rest.len() == text.len() {'
+mistake 'sign of -0.5 lost' 'size.map(|size| -size)' 'size.map(|size| if size < 1_000_000 { size } else { -size })'
+mistake 'plus sign refused' "[b'+', rest @ ..] => magnitude(rest)" "[b'+', ..] => None"
+mistake 'range before form' '_ => Err(refuse::FORM),
+    }
+}
+
+/// `X#Y#A#`' 'Some((None, _, _)) => Err(refuse::RANGE),
+        _ => Err(refuse::FORM),
+    }
+}
+
+/// `X#Y#A#`'
+mistake 'radius of zero' 'size.filter(|&size| size >= 1)' 'size'
+mistake 'sign before a radius' 'match magnitude(text) {
+        Some((size, [])) => Ok' 'match coordinate(text) {
+        Some((size, [])) => Ok'
+mistake 'T0 is no form' 'let tool = value(ones);
+            need(tool >= 1, refuse::RANGE)?;' 'let tool = value(ones);
+            need(tool >= 1, refuse::FORM)?;'
+mistake 'T00 selected' 'need(tool >= 1, refuse::RANGE)?;
+            Ok(Command::Select { tool })
+        }
+        [tens @ b'\''0'\''..=b'\''9'\'', ones @ b'\''0'\''..=b'\''9'\'', b'\''C'\''' 'Ok(Command::Select { tool: tool.max(1) })
+        }
+        [tens @ b'\''0'\''..=b'\''9'\'', ones @ b'\''0'\''..=b'\''9'\'', b'\''C'\'''
+mistake 'second semicolon read' 'need(!rest.contains(&b'\'';'\''), refuse::FORM)?;' ''
+mistake 'lower-case M48' 'b"M48" => Ok(Command::Start),' 'b"M48" | b"m48" => Ok(Command::Start),'
+mistake 'METRIC as INCH' 'b"METRIC" => Ok(Command::Metric)' 'b"METRIC" => Ok(Command::Inch)'
+
+# Lines.
+mistake 'line of 256 refused' 'line.len() <= MAX_LINE' 'line.len() < MAX_LINE'
+mistake 'line of 257 read' 'line.len() <= MAX_LINE' 'line.len() <= MAX_LINE + 1'
+mistake 'bytes before length' 'need(line.len() <= MAX_LINE, refuse::LINE_SIZE)?;
+        need(line.iter().all(|byte| (32..=126).contains(byte)), refuse::BYTE)?;' \
+    'need(line.iter().all(|byte| (32..=126).contains(byte)), refuse::BYTE)?;
+        need(line.len() <= MAX_LINE, refuse::LINE_SIZE)?;'
+mistake 'byte 127 read' '(32..=126)' '(32..=127)'
+mistake 'byte 31 read' '(32..=126)' '(31..=126)'
+mistake 'every CR taken off' 'text.strip_suffix(b"\r").unwrap_or(text)' \
+    '{ let mut text = text; while let Some(cut) = text.strip_suffix(b"\r") { text = cut; } text }'
+mistake 'CR refused' 'text.strip_suffix(b"\r").unwrap_or(text)' 'text'
+mistake 'last line needs no LF' '.ok_or((refuse::NOT_ENDED, line))?' '.unwrap_or(rest.len() - 1)'
+mistake 'file of 65,536 refused' 'file.len() <= MAX_FILE' 'file.len() < MAX_FILE'
+mistake 'file of 65,537 read' 'file.len() <= MAX_FILE' 'file.len() <= MAX_FILE + 1'
+mistake 'line 1,000 refused' 'line as usize <= MAX_LINES' '(line as usize) < MAX_LINES'
+mistake 'line 1,001 read' 'line as usize <= MAX_LINES' '(line as usize) <= MAX_LINES + 1'
+mistake 'too many lines known only at the LF' 'need(line as usize <= MAX_LINES, (refuse::LINE_COUNT, line))?;
+        let end = rest.iter().position(|&byte| byte == b'\''\n'\'').ok_or((refuse::NOT_ENDED, line))?;' \
+    'let end = rest.iter().position(|&byte| byte == b'\''\n'\'').ok_or((refuse::NOT_ENDED, line))?;
+        need(line as usize <= MAX_LINES, (refuse::LINE_COUNT, line))?;'
+mistake '14 at the last line' '(refuse::UNFINISHED, line + 1)' '(refuse::UNFINISHED, line)'
+mistake 'end not asked for' 'need(state.phase == phase::ENDED, (refuse::UNFINISHED, line + 1))?;' ''
+mistake 'short table found out first' 'let rows = rows_of(file)?;' \
+    'need(!table.is_empty(), (refuse::TOO_SHORT, 0))?; let rows = rows_of(file)?;'
+mistake 'rows written before the table is found short' 'let lent = table.get_mut(..rows.len())' \
+    'if let (Some(first), false) = (table.first_mut(), rows.is_empty()) { *first = rows[0]; }
+    let lent = table.get_mut(..rows.len())'
+mistake 'table cleared beyond the rows' 'lent.copy_from_slice(&rows);' \
+    'lent.copy_from_slice(&rows); if let Some(next) = table.get_mut(rows.len()) { *next = 0; }'
+
+# The state.
+mistake 'comment after the end' 'Command::Comment => need(self.phase != phase::ENDED, refuse::PHASE)?,' 'Command::Comment => {}'
+mistake 'second M48' 'need(self.phase == phase::BEFORE' 'need(self.phase <= phase::NO_UNIT'
+mistake 'unit twice' 'need(self.phase == phase::NO_UNIT' 'need(self.phase == phase::NO_UNIT || self.phase == phase::HEADER'
+mistake 'declaration in the body' 'Command::Declare { tool, .. } => {
+                need(self.phase == phase::HEADER' 'Command::Declare { tool, .. } => {
+                need(self.phase == phase::HEADER || self.phase == phase::BODY'
+mistake 'tool declared twice' 'need(!self.has(tool), refuse::DECLARED)?;' ''
+mistake 'declared set forgotten' 'next.declared[(tool / WORD_BITS) as usize] |= 1 <<' 'next.declared[(tool / WORD_BITS) as usize] = 1 <<'
+mistake 'words of 30 bits' 'const WORD_BITS: i32 = 25;' 'const WORD_BITS: i32 = 30;'
+mistake 'G05 keeps the point' '(next.x, next.y) = (0, 0);' ''
+mistake 'G05 with the tool down' 'self.need_body(self.motion != motion::DOWN)?;
+                next.motion = motion::DRILL;' 'self.need_body(true)?;
+                next.motion = motion::DRILL;'
+mistake 'hit moves the point' 'Command::Hit { .. } => {
+                self' 'Command::Hit { x, y } => {
+                (next.x, next.y) = (x, y);
+                self'
+mistake 'hit in rout mode' 'self.need_body(self.motion == motion::DRILL)?;' 'self.need_body(self.motion != motion::DOWN)?;'
+mistake 'hit without tool' 'need(self.tool != 0, refuse::NO_TOOL)?;' ''
+mistake 'M15 without tool' 'need(self.tool != 0, refuse::NO_TOOL)?;
+                next.motion = motion::DOWN;' 'next.motion = motion::DOWN;'
+mistake 'tool asked for before the motion' 'self.need_body(self.motion == motion::UP)?;
+                need(self.tool != 0, refuse::NO_TOOL)?;' 'need(self.phase != phase::BODY || self.tool != 0, refuse::NO_TOOL)?;
+                self.need_body(self.motion == motion::UP)?;'
+mistake 'undeclared tool before the motion' 'self.need_body(self.motion != motion::DOWN)?;
+                need(self.has(tool), refuse::NOT_DECLARED)?;' 'need(self.phase != phase::BODY || self.has(tool), refuse::NOT_DECLARED)?;
+                self.need_body(self.motion != motion::DOWN)?;'
+mistake 'motion before the phase' 'need(self.phase == phase::BODY, refuse::PHASE)?;
+        need(motion_fits, refuse::MOTION)' 'need(motion_fits, refuse::MOTION)?;
+        need(self.phase == phase::BODY, refuse::PHASE)'
+mistake 'G01 with the tool up' 'Command::Line { x, y } => {
+                self.need_body(self.motion == motion::DOWN)?;' 'Command::Line { x, y } => {
+                self.need_body(self.motion >= motion::UP)?;'
+mistake 'G01 asks for a tool' 'Command::Line { x, y } => {
+                self.need_body(self.motion == motion::DOWN)?;' 'Command::Line { x, y } => {
+                self.need_body(self.motion == motion::DOWN)?;
+                need(self.tool != 0, refuse::NO_TOOL)?;'
+mistake 'arc to its start' 'apart != 0 && apart <=' 'apart <='
+mistake 'half a turn refused' 'apart <= 4' 'apart < 4'
+mistake 'arc in 32 bits' 'apart != 0 && apart <= 4 * radius * radius' \
+    'apart != 0 && apart as i32 <= (4 * radius * radius) as i32'
+mistake 'arc rounded' 'apart <= 4 * radius * radius' '((apart as f32).sqrt() <= 2.0 * radius as f32)'
+mistake 'arc leaves the point' 'need(self.can_arc(x, y, radius), refuse::ARC)?;
+                (next.x, next.y) = (x, y);' 'need(self.can_arc(x, y, radius), refuse::ARC)?;'
+mistake 'M30 with the tool down' 'self.need_body(self.motion != motion::DOWN)?;
+                next.phase = phase::ENDED;' 'self.need_body(true)?;
+                next.phase = phase::ENDED;'
+mistake 'M30 clears the motion' 'next.phase = phase::ENDED;' 'next.phase = phase::ENDED; next.motion = motion::NONE;'
+
+# The row's test.
+mistake 'phase not tested' '(phase::BEFORE..=phase::ENDED).contains(&phase)' 'true'
+mistake 'unit not tested' '(unit::NONE..=unit::INCH).contains(&unit)' 'true'
+mistake 'motion not tested' '(motion::NONE..=motion::DOWN).contains(&motion)' 'true'
+mistake 'tool 100 in range' '(0..=MAX_TOOL).contains(&tool)' '(0..=100).contains(&tool)'
+mistake 'point x not tested' '&& (MIN..=MAX).contains(&x)' ''
+mistake 'point y of one more' '&& (MIN..=MAX).contains(&y)' '&& (MIN..=MAX + 1).contains(&y)'
+mistake 'word of one more' '(0..=MAX_WORD).contains(word)' '(0..=MAX_WORD + 1).contains(word)'
+mistake 'negative word' '(0..=MAX_WORD).contains(word)' '(*word <= MAX_WORD)'
+mistake "tool 0's bit let in" '&& a & 1 == 0' ''
+mistake "tool 0's bit in every word" '&& a & 1 == 0' '&& (a | b | c | d) & 1 == 0'
+mistake 'selected tool must be declared' 'let command = Command::of_numbers' \
+    'if tool != 0 && !(State { declared: [a, b, c, d], ..State::default() }).has(tool) { return None; }
+    let command = Command::of_numbers'
+mistake 'G05 with a radius' '[6, 0, 0, 0, 0]' '[6, 0, 0, 0, _]'
+mistake 'M30 with an x' '[15, 0, 0, 0, 0]' '[15, 0, _, 0, 0]'
+mistake 'hit with a tool' '[9, 0, x' '[9, _, x'
+mistake 'declaration of zero' 'diameter @ 1..=MAX' 'diameter @ 0..=MAX'
+mistake 'selection of tool 0' '[8, tool @ 1..=MAX_TOOL' '[8, tool @ 0..=MAX_TOOL'
+mistake 'radius of one more' 'Command::Clockwise { x, y, radius }
+            }
+            [14, 0, x @ MIN..=MAX, y @ MIN..=MAX, radius @ 1..=MAX]' 'Command::Clockwise { x, y, radius }
+            }
+            [14, 0, x @ MIN..=MAX, y @ MIN..=MAX, radius @ 1..=1_000_000_000]'
+
+# Sizes and line numbers.
+mistake 'n of 0' '(1..=MAX_LINES).contains(&n) && numbers' '(0..=MAX_LINES).contains(&n) && numbers'
+mistake 'n of 1,001' 'let numbers = n.min(MAX_LINES) * ROW;
+    need((1..=MAX_LINES).contains(&n)' 'let numbers = n.min(MAX_LINES + 1) * ROW;
+    need((1..=MAX_LINES + 1).contains(&n)'
+mistake 'n times fifteen wraps' 'let numbers = n.min(MAX_LINES) * ROW;
+    need((1..=MAX_LINES).contains(&n) && numbers <= table.len(), (refuse::TABLE, 0))?;
+    Ok(numbers)' 'let numbers = n.wrapping_mul(ROW);
+    need(n >= 1 && numbers <= table.len(), (refuse::TABLE, 0))?;
+    need((1..=MAX_LINES).contains(&n), (refuse::LINE_NUMBER, 0))?;
+    Ok(numbers)'
+mistake 'table without a number to spare' 'numbers <= table.len()' 'numbers < table.len()'
+mistake 'line cut to 32 bits' 'need((1..=n).contains(&line), (refuse::LINE_NUMBER, 0))?;
+    let ends_line' 'let line = line as u32 as usize;
+    need((1..=n).contains(&line), (refuse::LINE_NUMBER, 0))?;
+    let ends_line'
+
+# Edits.
+mistake 'CR in the new line' "b'\\n' | b'\\r'" "b'\\n'"
+mistake '17 after the rows' 'need(!text.iter().any(ends_line), (refuse::LINE_END, 0))?;
+
+    let before = state_before(rows, line)?;' 'let before = state_before(rows, line)?;
+    need(!text.iter().any(ends_line), (refuse::LINE_END, 0))?;'
+mistake '17 before 16' 'need((1..=n).contains(&line), (refuse::LINE_NUMBER, 0))?;
+    let ends_line = |byte: &u8| matches!(byte, b'\''\n'\'' | b'\''\r'\'');' 'let ends_line = |byte: &u8| matches!(byte, b'\''\n'\'' | b'\''\r'\'');
+    need(!text.iter().any(ends_line), (refuse::LINE_END, 0))?;
+    need((1..=n).contains(&line), (refuse::LINE_NUMBER, 0))?;'
+mistake 'edited row tested after the new line' 'let (_, mut old) = row_at(rows, line)?;
+    let refused = |number| (number, line as u32);
+    let command = Command::of_line(text).map_err(refused)?;' 'let refused = |number| (number, line as u32);
+    let command = Command::of_line(text).map_err(refused)?;
+    let (_, mut old) = row_at(rows, line)?;'
+mistake 'stops at a command of the same kind' 'let mut meeting = line;' \
+    'let mut meeting = line; if rows[(line - 1) * ROW] == command.numbers()[0] { old = state; }'
+mistake 'stops where the points agree' 'while state != old && meeting < n' \
+    'while (state.phase, state.motion, state.x, state.y) != (old.phase, old.motion, old.x, old.y) && meeting < n'
+mistake 'unit left out of the agreement' 'while state != old && meeting < n' \
+    'while (State { unit: 0, ..state }) != (State { unit: 0, ..old }) && meeting < n'
+mistake 'declared set left out of the agreement' 'while state != old && meeting < n' \
+    'while (State { declared: [0; 4], ..state }) != (State { declared: [0; 4], ..old }) && meeting < n'
+mistake 'last word left out of the agreement' 'while state != old && meeting < n' \
+    'while (state.numbers()[..9] != old.numbers()[..9]) && meeting < n'
+mistake 'own row only' 'while state != old && meeting < n' 'while false'
+mistake 'runs on to the end' 'while state != old && meeting < n' 'while meeting < n'
+mistake "row tested after its own refusal" 'let (command, old_here) = row_at(rows, meeting)?;' \
+    'if let Some(command) = Command::of_numbers(rows[(meeting - 1) * ROW..][..COMMAND].try_into().unwrap()) {
+            state.after(command).map_err(|number| (number, meeting as u32))?;
+        }
+        let (command, old_here) = row_at(rows, meeting)?;'
+mistake '14 not asked' 'need(agreed || state.phase == phase::ENDED' 'need(agreed || true'
+mistake '14 asked though agreed' 'need(agreed || state.phase == phase::ENDED' 'need(meeting < n || state.phase == phase::ENDED'
+mistake '14 at n' '(refuse::UNFINISHED, n as u32 + 1)' '(refuse::UNFINISHED, n as u32)'
+mistake 'old command kept' 'edited[..COMMAND].copy_from_slice(&command.numbers());' ''
+mistake 'last state of the span not written' '.zip(&span) {' '.zip(&span[..span.len() - 1]) {'
+mistake 'row before rerun' '_ => Ok(row_at(rows, line - 1)?.1),' \
+    '_ => { let (command, after) = row_at(rows, line - 1)?; if line == 2 { if let Ok(again) = State::default().after(command) { return Ok(again); } } Ok(after) }'
+mistake 'row before not tested' '_ => Ok(row_at(rows, line - 1)?.1),' \
+    '_ => Ok(row_at(rows, line - 1).map(|row| row.1).unwrap_or_default()),'
+
+# Holes.
+mistake "hit starts at the row before's point" 'Command::Hit { .. } => (x, y),
+        Command::Line' 'Command::Line'
+mistake 'rout starts at its own point' '(before.x, before.y)
+        }' '(after.x, after.y)
+        }'
+mistake 'tool of the row before' 'Some([kind, after.tool,' 'Some([kind, before.tool,'
+mistake "end is the row's point" 'start_x, start_y, x, y, radius])' 'start_x, start_y, after.x, after.y, radius])'
+mistake 'M16 makes a hole' 'Command::Hit { .. } => (x, y),' 'Command::Hit { .. } | Command::Up => (x, y),'
+mistake 'short block let pass without a hole' 'let lent = hole.get_mut(..HOLE).ok_or((refuse::TOO_SHORT, 0))?;
+    match hole_of(command, &before, &after) {' 'let made = hole_of(command, &before, &after);
+    if made.is_none() { return Ok(0); }
+    let lent = hole.get_mut(..HOLE).ok_or((refuse::TOO_SHORT, 0))?;
+    match made {'
+mistake 'short block before the rows' 'let before = state_before(rows, line)?;
+    let (command, after)' 'need(hole.len() >= HOLE, (refuse::TOO_SHORT, 0))?;
+    let before = state_before(rows, line)?;
+    let (command, after)'
+
+# Writing.
+mistake 'comments written' 'Command::Comment => return,' "Command::Comment => out.push(b';'),"
+mistake 'states not followed' 'need(state.after(command) == Ok(after), (refuse::TABLE, line as u32))?;' ''
+mistake 'refused command written' 'need(state.after(command) == Ok(after)' 'need(state.after(command).map_or(true, |next| next == after)'
+mistake 'end not asked for in writing' 'need(state.phase == phase::ENDED, (refuse::TABLE, n as u32))?;' ''
+mistake 'text without a byte to spare' 'let lent = text.get_mut(..out.len())' \
+    'need(text.len() > out.len(), (refuse::TOO_SHORT, 0))?; let lent = text.get_mut(..out.len())'
+mistake 'short text written in part' 'let lent = text.get_mut(..out.len())' \
+    'if let (Some(first), Some(&byte)) = (text.first_mut(), out.first()) { *first = byte; }
+    let lent = text.get_mut(..out.len())'
+mistake '100 without its hundreds' 'if whole >= 100 {' 'if whole > 100 {'
+mistake '10 without its tens' 'if whole >= 10 {' 'if whole > 10 {'
+mistake 'minus of a fraction lost' 'if value < 0 {
+        out.push' 'if value <= -(UNIT as i32) {
+        out.push'
+mistake 'tool of one digit' "out.extend_from_slice(&[b'T', b'0' + tool / 10, b'0' + tool % 10]);" \
+    "out.push(b'T'); if tool >= 10 { out.push(b'0' + tool / 10); } out.push(b'0' + tool % 10);"
+mistake 'a point after whole numbers' 'if fraction > 0 {
+        out.push' 'if fraction > 0 || whole > 900 {
+        out.push'
+
+echo "$broken broken copies, $missed missed"
+[ "$missed" = 0 ]

@@ -1,0 +1,760 @@
+//! The XNC line table in plain Rust: a reader, an editor, a hole query, a
+//! writer and a print-out, written from the format's paper alone.
+//!
+//! It shares no code, table or generated data with the library it is compared
+//! with. Every function answers a pair: on success `(0, count)`, on refusal
+//! `(number, line)` with everything lent left as it was. No input panics.
+
+#[cfg(test)]
+mod tests;
+
+use std::io::Write as _;
+
+const MAX_FILE: usize = 65_536;
+const MAX_LINES: usize = 1_000;
+const MAX_LINE: usize = 256;
+const LONGEST_WRITTEN: usize = 39;
+
+/// Millionths in one whole unit.
+const UNIT: u32 = 1_000_000;
+const MAX: i32 = 999_999_999;
+const MIN: i32 = -MAX;
+
+const MAX_TOOL: i32 = 99;
+const WORD_BITS: i32 = 25;
+const MAX_WORD: i32 = (1 << WORD_BITS) - 1;
+
+/// Numbers in a row, those of its command, and those of a hole.
+const ROW: usize = 15;
+const COMMAND: usize = 5;
+const HOLE: usize = 7;
+
+/// The numbers of the refusals.
+mod refuse {
+    pub const FILE_SIZE: u32 = 1;
+    pub const LINE_COUNT: u32 = 2;
+    pub const NOT_ENDED: u32 = 3;
+    pub const BYTE: u32 = 4;
+    pub const FORM: u32 = 5;
+    pub const LINE_SIZE: u32 = 6;
+    pub const RANGE: u32 = 7;
+    pub const PHASE: u32 = 8;
+    pub const DECLARED: u32 = 9;
+    pub const NOT_DECLARED: u32 = 10;
+    pub const NO_TOOL: u32 = 11;
+    pub const MOTION: u32 = 12;
+    pub const ARC: u32 = 13;
+    pub const UNFINISHED: u32 = 14;
+    pub const TOO_SHORT: u32 = 15;
+    pub const LINE_NUMBER: u32 = 16;
+    pub const LINE_END: u32 = 17;
+    pub const TABLE: u32 = 18;
+}
+
+mod phase {
+    pub const BEFORE: i32 = 0;
+    pub const NO_UNIT: i32 = 1;
+    pub const HEADER: i32 = 2;
+    pub const BODY: i32 = 3;
+    pub const ENDED: i32 = 4;
+}
+
+mod motion {
+    pub const NONE: i32 = 0;
+    pub const DRILL: i32 = 1;
+    pub const UP: i32 = 2;
+    pub const DOWN: i32 = 3;
+}
+
+mod unit {
+    pub const NONE: i32 = 0;
+    pub const METRIC: i32 = 1;
+    pub const INCH: i32 = 2;
+}
+
+/// A refusal: its number and its line.
+type Refusal = (u32, u32);
+
+fn answer(result: Result<u32, Refusal>) -> (u32, u32) {
+    match result {
+        Ok(count) => (0, count),
+        Err(refusal) => refusal,
+    }
+}
+
+fn need<E>(holds: bool, otherwise: E) -> Result<(), E> {
+    if holds {
+        Ok(())
+    } else {
+        Err(otherwise)
+    }
+}
+
+// ---------------------------------------------------------------- numbers
+
+/// Reads digits with at most one point from the front of `text`. `None` if
+/// there is no digit; else the millionths, themselves `None` if over the
+/// largest or with over six decimals, and the text that follows.
+fn magnitude(text: &[u8]) -> Option<(Option<i32>, &[u8])> {
+    const SCALE: [u32; 7] = [1_000_000, 100_000, 10_000, 1_000, 100, 10, 1];
+
+    let mut value: u32 = 0;
+    let mut rest = text;
+    while let [digit @ b'0'..=b'9', after @ ..] = rest {
+        // Any whole part from 1,000 on is out of range, however long it runs.
+        value = (value * 10 + u32::from(digit - b'0')).min(1_000);
+        rest = after;
+    }
+    let mut digits = text.len() - rest.len();
+    let mut decimals = 0;
+    if let [b'.', after @ ..] = rest {
+        rest = after;
+        while let [digit @ b'0'..=b'9', after @ ..] = rest {
+            if decimals < 6 {
+                value = value * 10 + u32::from(digit - b'0');
+            }
+            decimals += 1;
+            rest = after;
+        }
+        digits += decimals;
+    }
+    if digits == 0 {
+        return None;
+    }
+    let millionths = match SCALE.get(decimals) {
+        Some(scale) if value * scale <= MAX as u32 => Some((value * scale) as i32),
+        _ => None,
+    };
+    Some((millionths, rest))
+}
+
+/// As `magnitude`, after an optional sign.
+fn coordinate(text: &[u8]) -> Option<(Option<i32>, &[u8])> {
+    match text {
+        [b'-', rest @ ..] => {
+            let (size, rest) = magnitude(rest)?;
+            Some((size.map(|size| -size), rest))
+        }
+        [b'+', rest @ ..] => magnitude(rest),
+        _ => magnitude(text),
+    }
+}
+
+// --------------------------------------------------------------- commands
+
+#[derive(Clone, Copy, Debug, PartialEq, Eq)]
+enum Command {
+    Comment,
+    Start,
+    Metric,
+    Inch,
+    Declare { tool: i32, diameter: i32 },
+    EndHeader,
+    Drill,
+    Move { x: i32, y: i32 },
+    Select { tool: i32 },
+    Hit { x: i32, y: i32 },
+    Down,
+    Up,
+    Line { x: i32, y: i32 },
+    Clockwise { x: i32, y: i32, radius: i32 },
+    Counter { x: i32, y: i32, radius: i32 },
+    End,
+}
+
+impl Command {
+    /// The command of one line without its end, or the refusal's number.
+    fn of_line(line: &[u8]) -> Result<Command, u32> {
+        need(line.len() <= MAX_LINE, refuse::LINE_SIZE)?;
+        need(line.iter().all(|byte| (32..=126).contains(byte)), refuse::BYTE)?;
+        match line {
+            [b'X', ..] => {
+                let (x, y) = point(line)?;
+                Ok(Command::Hit { x, y })
+            }
+            [b'G', b'0', b'0', rest @ ..] => {
+                let (x, y) = point(rest)?;
+                Ok(Command::Move { x, y })
+            }
+            [b'G', b'0', b'1', rest @ ..] => {
+                let (x, y) = point(rest)?;
+                Ok(Command::Line { x, y })
+            }
+            [b'G', b'0', b'2', rest @ ..] => {
+                let (x, y, radius) = arc(rest)?;
+                Ok(Command::Clockwise { x, y, radius })
+            }
+            [b'G', b'0', b'3', rest @ ..] => {
+                let (x, y, radius) = arc(rest)?;
+                Ok(Command::Counter { x, y, radius })
+            }
+            [b'T', rest @ ..] => tool(rest),
+            [b';', rest @ ..] => {
+                need(!rest.contains(&b';'), refuse::FORM)?;
+                Ok(Command::Comment)
+            }
+            b"M48" => Ok(Command::Start),
+            b"METRIC" => Ok(Command::Metric),
+            b"INCH" => Ok(Command::Inch),
+            b"%" => Ok(Command::EndHeader),
+            b"G05" => Ok(Command::Drill),
+            b"M15" => Ok(Command::Down),
+            b"M16" => Ok(Command::Up),
+            b"M30" => Ok(Command::End),
+            _ => Err(refuse::FORM),
+        }
+    }
+
+    /// The command of a row's first five numbers, if it is legal.
+    fn of_numbers(numbers: [i32; COMMAND]) -> Option<Command> {
+        Some(match numbers {
+            [0, 0, 0, 0, 0] => Command::Comment,
+            [1, 0, 0, 0, 0] => Command::Start,
+            [2, 0, 0, 0, 0] => Command::Metric,
+            [3, 0, 0, 0, 0] => Command::Inch,
+            [4, tool @ 1..=MAX_TOOL, 0, 0, diameter @ 1..=MAX] => {
+                Command::Declare { tool, diameter }
+            }
+            [5, 0, 0, 0, 0] => Command::EndHeader,
+            [6, 0, 0, 0, 0] => Command::Drill,
+            [7, 0, x @ MIN..=MAX, y @ MIN..=MAX, 0] => Command::Move { x, y },
+            [8, tool @ 1..=MAX_TOOL, 0, 0, 0] => Command::Select { tool },
+            [9, 0, x @ MIN..=MAX, y @ MIN..=MAX, 0] => Command::Hit { x, y },
+            [10, 0, 0, 0, 0] => Command::Down,
+            [11, 0, 0, 0, 0] => Command::Up,
+            [12, 0, x @ MIN..=MAX, y @ MIN..=MAX, 0] => Command::Line { x, y },
+            [13, 0, x @ MIN..=MAX, y @ MIN..=MAX, radius @ 1..=MAX] => {
+                Command::Clockwise { x, y, radius }
+            }
+            [14, 0, x @ MIN..=MAX, y @ MIN..=MAX, radius @ 1..=MAX] => {
+                Command::Counter { x, y, radius }
+            }
+            [15, 0, 0, 0, 0] => Command::End,
+            _ => return None,
+        })
+    }
+
+    fn numbers(self) -> [i32; COMMAND] {
+        match self {
+            Command::Comment => [0, 0, 0, 0, 0],
+            Command::Start => [1, 0, 0, 0, 0],
+            Command::Metric => [2, 0, 0, 0, 0],
+            Command::Inch => [3, 0, 0, 0, 0],
+            Command::Declare { tool, diameter } => [4, tool, 0, 0, diameter],
+            Command::EndHeader => [5, 0, 0, 0, 0],
+            Command::Drill => [6, 0, 0, 0, 0],
+            Command::Move { x, y } => [7, 0, x, y, 0],
+            Command::Select { tool } => [8, tool, 0, 0, 0],
+            Command::Hit { x, y } => [9, 0, x, y, 0],
+            Command::Down => [10, 0, 0, 0, 0],
+            Command::Up => [11, 0, 0, 0, 0],
+            Command::Line { x, y } => [12, 0, x, y, 0],
+            Command::Clockwise { x, y, radius } => [13, 0, x, y, radius],
+            Command::Counter { x, y, radius } => [14, 0, x, y, radius],
+            Command::End => [15, 0, 0, 0, 0],
+        }
+    }
+}
+
+/// `X#Y#` at the front of `text`, its numbers' ranges not yet looked at.
+type LoosePoint<'a> = (Option<i32>, Option<i32>, &'a [u8]);
+
+fn loose_point(text: &[u8]) -> Option<LoosePoint<'_>> {
+    let (x, rest) = coordinate(text.strip_prefix(b"X")?)?;
+    let (y, rest) = coordinate(rest.strip_prefix(b"Y")?)?;
+    Some((x, y, rest))
+}
+
+/// `X#Y#` and no more. The form of the whole comes before any range.
+fn point(text: &[u8]) -> Result<(i32, i32), u32> {
+    match loose_point(text) {
+        Some((x, y, [])) => x.zip(y).ok_or(refuse::RANGE),
+        _ => Err(refuse::FORM),
+    }
+}
+
+/// `X#Y#A#` and no more.
+fn arc(text: &[u8]) -> Result<(i32, i32, i32), u32> {
+    let (x, y, rest) = loose_point(text).ok_or(refuse::FORM)?;
+    let radius = size(rest.strip_prefix(b"A").ok_or(refuse::FORM)?)?;
+    let (x, y) = x.zip(y).ok_or(refuse::RANGE)?;
+    Ok((x, y, radius.ok_or(refuse::RANGE)?))
+}
+
+/// A diameter or radius and no more: `Err` for its form, `None` for its range.
+fn size(text: &[u8]) -> Result<Option<i32>, u32> {
+    match magnitude(text) {
+        Some((size, [])) => Ok(size.filter(|&size| size >= 1)),
+        _ => Err(refuse::FORM),
+    }
+}
+
+/// What follows a `T`: a selection, or a declaration with its diameter.
+fn tool(text: &[u8]) -> Result<Command, u32> {
+    let value = |byte: u8| i32::from(byte - b'0');
+    match *text {
+        [ones @ b'0'..=b'9'] => {
+            let tool = value(ones);
+            need(tool >= 1, refuse::RANGE)?;
+            Ok(Command::Select { tool })
+        }
+        [tens @ b'0'..=b'9', ones @ b'0'..=b'9'] => {
+            let tool = value(tens) * 10 + value(ones);
+            need(tool >= 1, refuse::RANGE)?;
+            Ok(Command::Select { tool })
+        }
+        [tens @ b'0'..=b'9', ones @ b'0'..=b'9', b'C', ref rest @ ..] => {
+            let diameter = size(rest)?;
+            let tool = value(tens) * 10 + value(ones);
+            need(tool >= 1, refuse::RANGE)?;
+            let diameter = diameter.ok_or(refuse::RANGE)?;
+            Ok(Command::Declare { tool, diameter })
+        }
+        _ => Err(refuse::FORM),
+    }
+}
+
+// ------------------------------------------------------------------ state
+
+/// The state after a line; before the first all zero.
+#[derive(Clone, Copy, Debug, Default, PartialEq, Eq)]
+struct State {
+    phase: i32,
+    unit: i32,
+    motion: i32,
+    tool: i32,
+    x: i32,
+    y: i32,
+    declared: [i32; 4],
+}
+
+impl State {
+    fn has(&self, tool: i32) -> bool {
+        self.declared[(tool / WORD_BITS) as usize] >> (tool % WORD_BITS) & 1 == 1
+    }
+
+    /// The state after `command`, or the number of its refusal.
+    fn after(&self, command: Command) -> Result<State, u32> {
+        let mut next = *self;
+        match command {
+            Command::Comment => need(self.phase != phase::ENDED, refuse::PHASE)?,
+            Command::Start => {
+                need(self.phase == phase::BEFORE, refuse::PHASE)?;
+                next.phase = phase::NO_UNIT;
+            }
+            Command::Metric | Command::Inch => {
+                need(self.phase == phase::NO_UNIT, refuse::PHASE)?;
+                next.phase = phase::HEADER;
+                next.unit = match command {
+                    Command::Metric => unit::METRIC,
+                    _ => unit::INCH,
+                };
+            }
+            Command::Declare { tool, .. } => {
+                need(self.phase == phase::HEADER, refuse::PHASE)?;
+                need(!self.has(tool), refuse::DECLARED)?;
+                next.declared[(tool / WORD_BITS) as usize] |= 1 << (tool % WORD_BITS);
+            }
+            Command::EndHeader => {
+                need(self.phase == phase::HEADER, refuse::PHASE)?;
+                next.phase = phase::BODY;
+            }
+            Command::Drill => {
+                self.need_body(self.motion != motion::DOWN)?;
+                next.motion = motion::DRILL;
+                (next.x, next.y) = (0, 0);
+            }
+            Command::Move { x, y } => {
+                self.need_body(self.motion != motion::DOWN)?;
+                next.motion = motion::UP;
+                (next.x, next.y) = (x, y);
+            }
+            Command::Select { tool } => {
+                self.need_body(self.motion != motion::DOWN)?;
+                need(self.has(tool), refuse::NOT_DECLARED)?;
+                next.tool = tool;
+            }
+            Command::Hit { .. } => {
+                self.need_body(self.motion == motion::DRILL)?;
+                need(self.tool != 0, refuse::NO_TOOL)?;
+            }
+            Command::Down => {
+                self.need_body(self.motion == motion::UP)?;
+                need(self.tool != 0, refuse::NO_TOOL)?;
+                next.motion = motion::DOWN;
+            }
+            Command::Up => {
+                self.need_body(self.motion == motion::DOWN)?;
+                next.motion = motion::UP;
+            }
+            Command::Line { x, y } => {
+                self.need_body(self.motion == motion::DOWN)?;
+                (next.x, next.y) = (x, y);
+            }
+            Command::Clockwise { x, y, radius } | Command::Counter { x, y, radius } => {
+                self.need_body(self.motion == motion::DOWN)?;
+                need(self.can_arc(x, y, radius), refuse::ARC)?;
+                (next.x, next.y) = (x, y);
+            }
+            Command::End => {
+                self.need_body(self.motion != motion::DOWN)?;
+                next.phase = phase::ENDED;
+            }
+        }
+        Ok(next)
+    }
+
+    fn need_body(&self, motion_fits: bool) -> Result<(), u32> {
+        need(self.phase == phase::BODY, refuse::PHASE)?;
+        need(motion_fits, refuse::MOTION)
+    }
+
+    /// Start and end differ and lie at most a diameter apart.
+    fn can_arc(&self, x: i32, y: i32, radius: i32) -> bool {
+        let dx = i64::from(x) - i64::from(self.x);
+        let dy = i64::from(y) - i64::from(self.y);
+        let radius = i64::from(radius);
+        let apart = dx * dx + dy * dy;
+        apart != 0 && apart <= 4 * radius * radius
+    }
+
+    fn numbers(&self) -> [i32; ROW - COMMAND] {
+        let [a, b, c, d] = self.declared;
+        [self.phase, self.unit, self.motion, self.tool, self.x, self.y, a, b, c, d]
+    }
+}
+
+// ------------------------------------------------------------------- rows
+
+/// A row's command and state, if every number lies in its field's range and
+/// the command is legal.
+fn decode(row: &[i32]) -> Option<(Command, State)> {
+    let &[kind, command_tool, command_x, command_y, size, phase, unit, motion, tool, x, y, a, b, c, d] =
+        row
+    else {
+        return None;
+    };
+    let in_range = (phase::BEFORE..=phase::ENDED).contains(&phase)
+        && (unit::NONE..=unit::INCH).contains(&unit)
+        && (motion::NONE..=motion::DOWN).contains(&motion)
+        && (0..=MAX_TOOL).contains(&tool)
+        && (MIN..=MAX).contains(&x)
+        && (MIN..=MAX).contains(&y)
+        && [a, b, c, d].iter().all(|word| (0..=MAX_WORD).contains(word))
+        && a & 1 == 0;
+    if !in_range {
+        return None;
+    }
+    let command = Command::of_numbers([kind, command_tool, command_x, command_y, size])?;
+    let declared = [a, b, c, d];
+    Some((command, State { phase, unit, motion, tool, x, y, declared }))
+}
+
+/// The numbers of the first `n` rows, if `n` is 1 to 1,000 and they are there.
+fn numbers_of(table: &[i32], n: usize) -> Result<usize, Refusal> {
+    let numbers = n.min(MAX_LINES) * ROW;
+    need((1..=MAX_LINES).contains(&n) && numbers <= table.len(), (refuse::TABLE, 0))?;
+    Ok(numbers)
+}
+
+/// Row `line`, counted from 1, or the refusal of a row that fails its test.
+fn row_at(rows: &[i32], line: usize) -> Result<(Command, State), Refusal> {
+    decode(&rows[(line - 1) * ROW..line * ROW]).ok_or((refuse::TABLE, line as u32))
+}
+
+/// The state before `line`: that of the row before, which must pass its test.
+fn state_before(rows: &[i32], line: usize) -> Result<State, Refusal> {
+    match line {
+        1 => Ok(State::default()),
+        _ => Ok(row_at(rows, line - 1)?.1),
+    }
+}
+
+// ---------------------------------------------------------------- reading
+
+/// Reads `file` into `table`. Success counts the lines.
+pub fn read(file: &[u8], table: &mut [i32]) -> (u32, u32) {
+    answer(try_read(file, table))
+}
+
+fn try_read(file: &[u8], table: &mut [i32]) -> Result<u32, Refusal> {
+    let rows = rows_of(file)?;
+    let lent = table.get_mut(..rows.len()).ok_or((refuse::TOO_SHORT, 0))?;
+    lent.copy_from_slice(&rows);
+    Ok((rows.len() / ROW) as u32)
+}
+
+/// All rows of `file`, one after the other.
+fn rows_of(file: &[u8]) -> Result<Vec<i32>, Refusal> {
+    need(file.len() <= MAX_FILE, (refuse::FILE_SIZE, 0))?;
+    // No line that is read takes fewer than two bytes.
+    let mut rows = Vec::with_capacity((file.len() / 2).min(MAX_LINES) * ROW);
+    let mut state = State::default();
+    let mut line: u32 = 0;
+    let mut rest = file;
+    while !rest.is_empty() {
+        line += 1;
+        need(line as usize <= MAX_LINES, (refuse::LINE_COUNT, line))?;
+        let end = rest.iter().position(|&byte| byte == b'\n').ok_or((refuse::NOT_ENDED, line))?;
+        let text = &rest[..end];
+        let text = text.strip_suffix(b"\r").unwrap_or(text);
+        let command = Command::of_line(text).map_err(|number| (number, line))?;
+        state = state.after(command).map_err(|number| (number, line))?;
+        rows.extend(command.numbers());
+        rows.extend(state.numbers());
+        rest = &rest[end + 1..];
+    }
+    need(state.phase == phase::ENDED, (refuse::UNFINISHED, line + 1))?;
+    Ok(rows)
+}
+
+// ---------------------------------------------------------------- editing
+
+/// Puts `text` in the place of one line. Success counts the meeting line.
+pub fn edit(table: &mut [i32], n: usize, line: usize, text: &[u8]) -> (u32, u32) {
+    answer(try_edit(table, n, line, text))
+}
+
+fn try_edit(table: &mut [i32], n: usize, line: usize, text: &[u8]) -> Result<u32, Refusal> {
+    let numbers = numbers_of(table, n)?;
+    let rows = &mut table[..numbers];
+    need((1..=n).contains(&line), (refuse::LINE_NUMBER, 0))?;
+    let ends_line = |byte: &u8| matches!(byte, b'\n' | b'\r');
+    need(!text.iter().any(ends_line), (refuse::LINE_END, 0))?;
+
+    let before = state_before(rows, line)?;
+    let (_, mut old) = row_at(rows, line)?;
+    let refused = |number| (number, line as u32);
+    let command = Command::of_line(text).map_err(refused)?;
+    let mut state = before.after(command).map_err(refused)?;
+
+    // The new states of the span, kept apart until nothing can refuse.
+    let mut span = vec![state];
+    let mut meeting = line;
+    while state != old && meeting < n {
+        meeting += 1;
+        let (command, old_here) = row_at(rows, meeting)?;
+        state = state.after(command).map_err(|number| (number, meeting as u32))?;
+        old = old_here;
+        span.push(state);
+    }
+    let agreed = state == old;
+    need(agreed || state.phase == phase::ENDED, (refuse::UNFINISHED, n as u32 + 1))?;
+
+    let edited = &mut rows[(line - 1) * ROW..];
+    edited[..COMMAND].copy_from_slice(&command.numbers());
+    for (row, state) in edited.chunks_exact_mut(ROW).zip(&span) {
+        row[COMMAND..].copy_from_slice(&state.numbers());
+    }
+    Ok(meeting as u32)
+}
+
+// ------------------------------------------------------------------ holes
+
+/// The hole that a row makes: kind, tool, start, end, radius.
+fn hole_of(command: Command, before: &State, after: &State) -> Option<[i32; HOLE]> {
+    let [kind, _, x, y, radius] = command.numbers();
+    let (start_x, start_y) = match command {
+        Command::Hit { .. } => (x, y),
+        Command::Line { .. } | Command::Clockwise { .. } | Command::Counter { .. } => {
+            (before.x, before.y)
+        }
+        _ => return None,
+    };
+    Some([kind, after.tool, start_x, start_y, x, y, radius])
+}
+
+/// Asks for the hole that a line makes. Success counts 1 with the hole's
+/// seven numbers put into `hole`, or 0 with `hole` unchanged.
+///
+/// A block under seven numbers is refused 15 at line 0, after all other
+/// refusals, whether or not the line makes a hole.
+pub fn hole(table: &[i32], n: usize, line: usize, hole: &mut [i32]) -> (u32, u32) {
+    answer(try_hole(table, n, line, hole))
+}
+
+fn try_hole(table: &[i32], n: usize, line: usize, hole: &mut [i32]) -> Result<u32, Refusal> {
+    let rows = &table[..numbers_of(table, n)?];
+    need((1..=n).contains(&line), (refuse::LINE_NUMBER, 0))?;
+    let before = state_before(rows, line)?;
+    let (command, after) = row_at(rows, line)?;
+    let lent = hole.get_mut(..HOLE).ok_or((refuse::TOO_SHORT, 0))?;
+    match hole_of(command, &before, &after) {
+        Some(numbers) => {
+            lent.copy_from_slice(&numbers);
+            Ok(1)
+        }
+        None => Ok(0),
+    }
+}
+
+/// The diameter of `tool`, from its first declaration.
+///
+/// Refused 18 at line 0 for the sizes, 7 at line 0 for a tool not 1 to 99,
+/// then 18 at the first row that fails its test before the declaration is
+/// met, 10 at line 0 if no row declares the tool.
+pub fn diameter(table: &[i32], n: usize, tool: u32) -> (u32, u32) {
+    answer(try_diameter(table, n, tool))
+}
+
+fn try_diameter(table: &[i32], n: usize, wanted: u32) -> Result<u32, Refusal> {
+    let rows = &table[..numbers_of(table, n)?];
+    need((1..=MAX_TOOL as u32).contains(&wanted), (refuse::RANGE, 0))?;
+    for line in 1..=n {
+        match row_at(rows, line)? {
+            (Command::Declare { tool, diameter }, _) if tool as u32 == wanted => {
+                return Ok(diameter as u32);
+            }
+            _ => {}
+        }
+    }
+    Err((refuse::NOT_DECLARED, 0))
+}
+
+// ---------------------------------------------------------------- writing
+
+/// Writes a good table as text. Success counts the bytes.
+pub fn write(table: &[i32], n: usize, text: &mut [u8]) -> (u32, u32) {
+    answer(try_write(table, n, text))
+}
+
+fn try_write(table: &[i32], n: usize, text: &mut [u8]) -> Result<u32, Refusal> {
+    let rows = &table[..numbers_of(table, n)?];
+    let mut out = Vec::with_capacity(text.len().min(n * LONGEST_WRITTEN));
+    let mut state = State::default();
+    for line in 1..=n {
+        let (command, after) = row_at(rows, line)?;
+        need(state.after(command) == Ok(after), (refuse::TABLE, line as u32))?;
+        put_command(&mut out, command);
+        state = after;
+    }
+    need(state.phase == phase::ENDED, (refuse::TABLE, n as u32))?;
+    let lent = text.get_mut(..out.len()).ok_or((refuse::TOO_SHORT, 0))?;
+    lent.copy_from_slice(&out);
+    Ok(out.len() as u32)
+}
+
+/// The command's line with its LF; nothing for a comment.
+fn put_command(out: &mut Vec<u8>, command: Command) {
+    match command {
+        Command::Comment => return,
+        Command::Start => out.extend_from_slice(b"M48"),
+        Command::Metric => out.extend_from_slice(b"METRIC"),
+        Command::Inch => out.extend_from_slice(b"INCH"),
+        Command::Declare { tool, diameter } => {
+            put_tool(out, tool);
+            put_number(out, b'C', diameter);
+        }
+        Command::EndHeader => out.push(b'%'),
+        Command::Drill => out.extend_from_slice(b"G05"),
+        Command::Move { x, y } => {
+            out.extend_from_slice(b"G00");
+            put_point(out, x, y);
+        }
+        Command::Select { tool } => put_tool(out, tool),
+        Command::Hit { x, y } => put_point(out, x, y),
+        Command::Down => out.extend_from_slice(b"M15"),
+        Command::Up => out.extend_from_slice(b"M16"),
+        Command::Line { x, y } => {
+            out.extend_from_slice(b"G01");
+            put_point(out, x, y);
+        }
+        Command::Clockwise { x, y, radius } => {
+            out.extend_from_slice(b"G02");
+            put_point(out, x, y);
+            put_number(out, b'A', radius);
+        }
+        Command::Counter { x, y, radius } => {
+            out.extend_from_slice(b"G03");
+            put_point(out, x, y);
+            put_number(out, b'A', radius);
+        }
+        Command::End => out.extend_from_slice(b"M30"),
+    }
+    out.push(b'\n');
+}
+
+fn put_tool(out: &mut Vec<u8>, tool: i32) {
+    let tool = tool as u8;
+    out.extend_from_slice(&[b'T', b'0' + tool / 10, b'0' + tool % 10]);
+}
+
+fn put_point(out: &mut Vec<u8>, x: i32, y: i32) {
+    put_number(out, b'X', x);
+    put_number(out, b'Y', y);
+}
+
+fn put_number(out: &mut Vec<u8>, letter: u8, value: i32) {
+    out.push(letter);
+    if value < 0 {
+        out.push(b'-');
+    }
+    let size = value.unsigned_abs();
+    let whole = size / UNIT;
+    if whole >= 100 {
+        out.push(b'0' + (whole / 100) as u8);
+    }
+    if whole >= 10 {
+        out.push(b'0' + (whole / 10 % 10) as u8);
+    }
+    out.push(b'0' + (whole % 10) as u8);
+
+    let mut fraction = size % UNIT;
+    if fraction > 0 {
+        out.push(b'.');
+    }
+    let mut place = UNIT / 10;
+    while fraction > 0 {
+        out.push(b'0' + (fraction / place) as u8);
+        fraction %= place;
+        place /= 10;
+    }
+}
+
+// --------------------------------------------------------------- printing
+
+/// What the program prints for `file`: unit, tools, holes and their count, or
+/// the one line of a refusal.
+pub fn print(file: &[u8]) -> Vec<u8> {
+    match rows_of(file) {
+        Ok(rows) => holes_printed(&rows),
+        Err((number, line)) => format!("refused\t{number}\t{line}\n").into_bytes(),
+    }
+}
+
+fn holes_printed(rows: &[i32]) -> Vec<u8> {
+    let mut out = Vec::new();
+    let mut diameters = [None; MAX_TOOL as usize + 1];
+    let mut holes = Vec::new();
+    let mut before = State::default();
+    let decoded = rows.chunks_exact(ROW).filter_map(decode);
+    for ((command, after), line) in decoded.zip(1..) {
+        if let Command::Declare { tool, diameter } = command {
+            diameters[tool as usize] = Some(diameter);
+        }
+        if let Some(hole) = hole_of(command, &before, &after) {
+            holes.push((line, hole));
+        }
+        before = after;
+    }
+
+    // Writing to a vector doesn't fail.
+    let unit = if before.unit == unit::INCH { "INCH" } else { "METRIC" };
+    let _ = writeln!(out, "unit\t{unit}");
+    for (tool, diameter) in diameters.iter().enumerate() {
+        if let Some(diameter) = diameter {
+            let _ = writeln!(out, "tool\t{tool}\t{diameter}");
+        }
+    }
+    for &(line, [kind, tool, start_x, start_y, x, y, radius]) in &holes {
+        let letter = match kind {
+            9 => 'H',
+            12 => 'L',
+            13 => 'C',
+            _ => 'A',
+        };
+        let _ = writeln!(out, "{line}\t{letter}\t{tool}\t{start_x}\t{start_y}\t{x}\t{y}\t{radius}");
+    }
+    let _ = writeln!(out, "holes\t{}", holes.len());
+    out
+}

@@ -1,0 +1,617 @@
+use super::*;
+
+const BENCH: &str = "M48\nMETRIC\nT01C0.5\nT07C1.25\n%\nG05\nT1\nX2Y-3.5\nT07\nG00X0Y0\nM15\n\
+                     G01X4Y0\nG03X6Y2A2\nM16\nM30\n";
+const BENCH_LINES: usize = 15;
+
+const PATTERN: i32 = -77;
+
+fn verdict(file: &[u8]) -> (u32, u32) {
+    let mut table = vec![PATTERN; 15 * 1_001];
+    let answer = read(file, &mut table);
+    let untouched = if answer.0 == 0 { answer.1 as usize * 15 } else { 0 };
+    assert!(table[untouched..].iter().all(|&number| number == PATTERN));
+    answer
+}
+
+/// The verdict on one body line, at line 7 of a file that is ended by M30.
+fn body(line: &str) -> (u32, u32) {
+    verdict(format!("M48\nMETRIC\nT01C1\n%\nT01\nG05\n{line}\nM30\n").as_bytes())
+}
+
+/// The verdict on one routing line with the tool down at 0, 0.
+fn rout(line: &str) -> (u32, u32) {
+    verdict(format!("M48\nMETRIC\nT01C1\n%\nT01\nG00X0Y0\nM15\n{line}\nM16\nM30\n").as_bytes())
+}
+
+/// The verdict on one header line, at line 3.
+fn header(line: &str) -> (u32, u32) {
+    verdict(format!("M48\nINCH\n{line}\n%\nM30\n").as_bytes())
+}
+
+fn table_of(file: &str) -> Vec<i32> {
+    let mut table = vec![0; 15 * file.lines().count()];
+    assert_eq!(read(file.as_bytes(), &mut table), (0, file.lines().count() as u32));
+    table
+}
+
+fn bench() -> Vec<i32> {
+    table_of(BENCH)
+}
+
+fn replaced(line: usize, text: &str) -> String {
+    let mut lines: Vec<&str> = BENCH.lines().collect();
+    lines[line - 1] = text;
+    lines.join("\n") + "\n"
+}
+
+/// Edits the bench file's table and holds the result against a fresh reading
+/// of the edited file, with numbers beyond the table lent as well.
+fn edited(line: usize, text: &str) -> (u32, u32) {
+    let mut table = bench();
+    table.extend([PATTERN; 20]);
+    let mut fresh = table.clone();
+    let before = table.clone();
+    let answer = edit(&mut table, BENCH_LINES, line, text.as_bytes());
+    let read_answer = read(replaced(line, text).as_bytes(), &mut fresh);
+    assert_eq!(table, fresh);
+    if answer.0 != 0 {
+        assert_eq!(answer, read_answer);
+        assert_eq!(table, before);
+        return answer;
+    }
+    assert_eq!(read_answer, (0, BENCH_LINES as u32));
+    let meeting = (line..=BENCH_LINES)
+        .find(|&at| table[at * 15 - 10..at * 15] == before[at * 15 - 10..at * 15])
+        .unwrap_or(BENCH_LINES);
+    assert_eq!(answer.1 as usize, meeting);
+    assert_eq!(table[..(line - 1) * 15], before[..(line - 1) * 15]);
+    assert_eq!(table[meeting * 15..], before[meeting * 15..]);
+    answer
+}
+
+// ------------------------------------------------------------- bench file
+
+#[test]
+fn bench_file_prints_as_the_paper_shows() {
+    let expected = "unit\tMETRIC\n\
+                    tool\t1\t500000\n\
+                    tool\t7\t1250000\n\
+                    8\tH\t1\t2000000\t-3500000\t2000000\t-3500000\t0\n\
+                    12\tL\t7\t0\t0\t4000000\t0\t0\n\
+                    13\tA\t7\t4000000\t0\t6000000\t2000000\t2000000\n\
+                    holes\t3\n";
+    assert_eq!(String::from_utf8(print(BENCH.as_bytes())).unwrap(), expected);
+}
+
+#[test]
+fn bench_file_reads_to_its_rows() {
+    let table = bench();
+    let word = (1 << 1) | (1 << 7);
+    assert_eq!(table[..15], [1, 0, 0, 0, 0, 1, 0, 0, 0, 0, 0, 0, 0, 0, 0]);
+    assert_eq!(table[30..45], [4, 1, 0, 0, 500_000, 2, 1, 0, 0, 0, 0, 2, 0, 0, 0]);
+    assert_eq!(table[105..120], [9, 0, 2_000_000, -3_500_000, 0, 3, 1, 1, 1, 0, 0, word, 0, 0, 0]);
+    assert_eq!(
+        table[180..195],
+        [14, 0, 6_000_000, 2_000_000, 2_000_000, 3, 1, 3, 7, 6_000_000, 2_000_000, word, 0, 0, 0]
+    );
+    assert_eq!(table[210..], [15, 0, 0, 0, 0, 4, 1, 2, 7, 6_000_000, 2_000_000, word, 0, 0, 0]);
+}
+
+#[test]
+fn bench_file_is_written_with_two_digit_tools() {
+    let expected = BENCH.replace("\nT1\n", "\nT01\n");
+    let mut text = vec![b'~'; expected.len() + 3];
+    assert_eq!(write(&bench(), BENCH_LINES, &mut text), (0, expected.len() as u32));
+    assert_eq!(text, (expected + "~~~").into_bytes());
+}
+
+#[test]
+fn edits_a_to_l() {
+    let cases: [(char, usize, &str, (u32, u32)); 12] = [
+        ('a', 3, "T01C0.6", (0, 3)),
+        ('b', 3, "T02C0.5", (10, 7)),
+        ('c', 2, "INCH", (0, 15)),
+        ('d', 6, ";", (12, 8)),
+        ('e', 8, "X2Y3", (0, 8)),
+        ('f', 9, ";", (0, 15)),
+        ('g', 12, "G01X4Y1", (0, 13)),
+        ('h', 13, "G03X8Y0A2", (0, 15)),
+        ('i', 13, "G03X8Y0A1.9", (13, 13)),
+        ('j', 15, ";", (14, 16)),
+        ('k', 11, "M30", (8, 12)),
+        ('l', 12, "G01X4Y0", (0, 12)),
+    ];
+    for (case, line, text, expected) in cases {
+        assert_eq!(edited(line, text), expected, "case {case}");
+    }
+}
+
+#[test]
+fn case_f_routs_with_tool_1() {
+    let mut table = bench();
+    assert_eq!(edit(&mut table, BENCH_LINES, 9, b";"), (0, 15));
+    let mut found = [0; 7];
+    assert_eq!(hole(&table, BENCH_LINES, 12, &mut found), (0, 1));
+    assert_eq!(found, [12, 1, 0, 0, 4_000_000, 0, 0]);
+    assert_eq!(hole(&table, BENCH_LINES, 13, &mut found), (0, 1));
+    assert_eq!(found, [14, 1, 4_000_000, 0, 6_000_000, 2_000_000, 2_000_000]);
+}
+
+// ---------------------------------------------------------- run-only cases
+
+#[test]
+fn empty_file_ends_before_line_1() {
+    assert_eq!(verdict(b""), (14, 1));
+}
+
+#[test]
+fn largest_number_is_read_and_the_next_refused() {
+    assert_eq!(body("X999.999999Y-999.999999").0, 0);
+    assert_eq!(body("X1000Y0"), (7, 7));
+    assert_eq!(body("X0Y-1000"), (7, 7));
+    assert_eq!(body("X1.0000000Y0"), (7, 7));
+}
+
+#[test]
+fn tool_numbers() {
+    assert_eq!(header("T1C0.6"), (5, 3));
+    assert_eq!(body("T00"), (7, 7));
+    assert_eq!(body("T0"), (7, 7));
+    assert_eq!(header("T00C1"), (7, 3));
+    assert_eq!(header("T0C1"), (5, 3));
+    assert_eq!(body("T100"), (5, 7));
+    assert_eq!(body("T001"), (5, 7));
+    assert_eq!(header("T100C1"), (5, 3));
+    assert_eq!(header("T00C"), (5, 3));
+}
+
+#[test]
+fn comment_of_255_is_read_and_of_256_refused() {
+    let comment = |length| format!(";{}", "c".repeat(length));
+    assert_eq!(body(&comment(255)).0, 0);
+    assert_eq!(body(&comment(256)), (6, 7));
+    assert_eq!(body(&(comment(255) + "\r")).0, 0);
+    assert_eq!(body(&(comment(255) + "\r\r")), (6, 7));
+}
+
+/// Section 2.8's example.
+const EXAMPLE: &str =
+    "M48\nMETRIC\nT01C0.6\nT02C0.7\nT03C0.8\nT04C1.0\n%\nG05\nT01\nX9.01Y3.3375\n\
+    X9.01Y4.3125\nT02\nX8.01Y4.8\nX8.01Y2.85\nX6.54Y2.85\nX6.45Y4.8\nT03\nG00X8.01Y3.825\nM15\n\
+    G01X6.54Y3.825\nM16\nT04\nG00X5.0Y2.6\nM15\nG03X6.0Y1.6A1.0\nG01X11.0Y1.6\nG01X11.0Y5.0\n\
+    G03X10.0Y6.0A1.0\nG01X5.0Y6.0\nG01X5.0Y2.6\nM16\nG05\nT03\nX8.0Y8.0\nM30\n";
+
+/// Section 4.2's example, with the lines left out in it left out.
+const ATTRIBUTES: &str = "M48\n; #@! TF.FileFunction,Plated,1,4,PTH\n\
+    ; #@! TF.CreationDate,2018-11-23T15:59:51+01:00\n\
+    ; #@! TF.GenerationSoftware,Ucamco,UcamX,2017.04\nMETRIC\n; #@! TA.AperFunction,ViaDrill\n\
+    T01C0.300\n; #@! TA.AperFunction,ComponentDrill\nT02C0.900\nT03C1.000\n%\nG05\nT01\n\
+    X008.150Y012.050\nX007.550Y013.100\nX103.950Y112.700\nT02\nX030.790Y078.415\n\
+    X030.790Y080.955\nX046.030Y078.415\nT03\nX107.300Y043.490\nX107.300Y040.950\n\
+    X109.840Y089.210\nM30\n";
+
+#[test]
+fn example_files_are_read() {
+    let printed = String::from_utf8(print(EXAMPLE.as_bytes())).unwrap();
+    assert!(printed.starts_with("unit\tMETRIC\ntool\t1\t600000\ntool\t2\t700000\n"));
+    assert!(printed.contains("\n20\tL\t3\t8010000\t3825000\t6540000\t3825000\t0\n"));
+    assert!(printed.contains("\n25\tA\t4\t5000000\t2600000\t6000000\t1600000\t1000000\n"));
+    assert!(printed.ends_with("\n34\tH\t3\t8000000\t8000000\t8000000\t8000000\t0\nholes\t14\n"));
+
+    let printed = String::from_utf8(print(ATTRIBUTES.as_bytes())).unwrap();
+    assert!(printed.contains("\n14\tH\t1\t8150000\t12050000\t8150000\t12050000\t0\n"));
+    assert!(printed.ends_with("holes\t9\n"));
+}
+
+// ---------------------------------------------------------------- refusals
+
+#[test]
+fn reading_refuses_by_file_and_line_sizes() {
+    // 255 comments of 257 bytes with their LF, then one line up to the limit.
+    let mut file = b"M48\nMETRIC\n%\nM30\n".to_vec();
+    let body = 13;
+    while file.len() < MAX_FILE {
+        let length = (MAX_FILE - file.len() - 2).min(255);
+        file.splice(body..body, format!(";{}\n", "x".repeat(length)).into_bytes());
+    }
+    assert_eq!(file.len(), MAX_FILE);
+    assert_eq!(verdict(&file).0, 0);
+    file.push(b'\n');
+    assert_eq!(verdict(&file), (1, 0));
+    assert_eq!(print(&file), b"refused\t1\t0\n");
+
+    let lines = |comments: usize| format!("M48\nMETRIC\n%\n{}M30\n", ";\n".repeat(comments));
+    assert_eq!(verdict(lines(996).as_bytes()), (0, 1_000));
+    assert_eq!(verdict(lines(997).as_bytes()), (2, 1_001));
+    assert_eq!(verdict((lines(996) + "?").as_bytes()), (2, 1_001));
+    assert_eq!(verdict(lines(997).replace("M30\n", "").as_bytes()), (14, 1_001));
+    assert_eq!(verdict((lines(998).replace('%', "%%")).as_bytes()), (5, 3));
+}
+
+#[test]
+fn reading_refuses_an_unended_line_whatever_it_holds() {
+    assert_eq!(verdict(b"M48"), (3, 1));
+    assert_eq!(verdict(b"M48\r"), (3, 1));
+    assert_eq!(verdict(b"M48\n\0"), (3, 2));
+    assert_eq!(verdict("x".repeat(300).as_bytes()), (3, 1));
+    assert_eq!(verdict(BENCH.trim_end().as_bytes()), (3, 15));
+}
+
+#[test]
+fn reading_takes_one_cr_before_the_lf() {
+    let file = BENCH.replace('\n', "\r\n");
+    assert_eq!(verdict(file.as_bytes()), (0, 15));
+    assert_eq!(verdict(b"M48\r\r\n"), (4, 1));
+    assert_eq!(verdict(b"M4\r8\n"), (4, 1));
+    assert_eq!(verdict(b"\r\n"), (5, 1));
+}
+
+#[test]
+fn reading_refuses_bytes() {
+    for byte in [0, 9, 31, 127, 128, 255] {
+        assert_eq!(verdict(&[b';', byte, b'\n']), (4, 1));
+    }
+    assert_eq!(verdict(b"; ~\n"), (14, 2));
+}
+
+#[test]
+fn reading_refuses_forms() {
+    for line in [
+        "",
+        " ",
+        "M4",
+        "M480",
+        "m48",
+        "METRI",
+        "METRIC ",
+        "INCHES",
+        "%%",
+        "G5",
+        "G05X1Y1",
+        "T",
+        "TX",
+        "T1C",
+        "T01C",
+        "T01C-1",
+        "T01C+1",
+        "T01C.",
+        "T01C1.1.1",
+        "T01C1 ",
+        "X",
+        "X1",
+        "XY",
+        "X1Y",
+        "XY1",
+        "X.Y1",
+        "X1Y.",
+        "X--1Y1",
+        "X+-1Y1",
+        "X1Y1A1",
+        "X1.2.3Y1",
+        "X1Y1 ",
+        " X1Y1",
+        "Y1X1",
+        "X1000Yq",
+        "G00",
+        "G00X1",
+        "G04X1Y1",
+        "G01X1Y1A1",
+        "G02X1Y1",
+        "G02X1Y1A",
+        "G03X1Y1A-1",
+        "G03X1Y1A+1",
+        "G03X1Y1A1A1",
+        "; ;",
+        ";;",
+        "M15;",
+        "M",
+        "G",
+        "G0",
+    ] {
+        assert_eq!(body(line), (5, 7), "{line}");
+    }
+}
+
+#[test]
+fn reading_refuses_ranges() {
+    let long = "9".repeat(249);
+    for line in [
+        "X1000Y1",
+        "X1Y-1000.",
+        "X1.1234567Y0",
+        &format!("X{long}Y0"),
+        "G00X999.9999991Y0",
+        "G01X0Y1000000000000",
+        "G02X0Y0A0",
+        "G02X0Y0A.0",
+        "G03X0Y0A1000",
+        "G03X0Y0A0.0000001",
+        "T01C0",
+        "T01C1000",
+        "T99C0.0000000",
+        "T00C1",
+    ] {
+        assert_eq!(body(line), (7, 7), "{line}");
+    }
+}
+
+#[test]
+fn reading_takes_odd_spellings() {
+    let number = |text: &str| coordinate(text.as_bytes()).unwrap().0.unwrap();
+    let spellings = [
+        ("5.", 5_000_000),
+        (".5", 500_000),
+        ("008.150", 8_150_000),
+        ("+1", 1_000_000),
+        ("-0", 0),
+        ("-0.5", -500_000),
+        ("-.000001", -1),
+        ("+999.999999", 999_999_999),
+        ("-999.999999", -999_999_999),
+        ("0.000000", 0),
+    ];
+    for (text, value) in spellings {
+        assert_eq!(number(text), value, "{text}");
+    }
+    assert_eq!(number(&format!("-{}1.5", "0".repeat(240))), -1_500_000);
+}
+
+#[test]
+fn reading_refuses_by_phase() {
+    assert_eq!(verdict(b"METRIC\n"), (8, 1));
+    assert_eq!(verdict(b"M48\nM48\n"), (8, 2));
+    assert_eq!(verdict(b"M48\n%\n"), (8, 2));
+    assert_eq!(verdict(b"M48\nT01C1\n"), (8, 2));
+    assert_eq!(verdict(b"M48\nINCH\nMETRIC\n"), (8, 3));
+    assert_eq!(verdict(b"M48\nINCH\nG05\n"), (8, 3));
+    assert_eq!(body("T02C1"), (8, 7));
+    assert_eq!(body("%"), (8, 7));
+    assert_eq!(body("M30"), (8, 8));
+    assert_eq!(verdict((BENCH.to_owned() + ";\n").as_bytes()), (8, 16));
+}
+
+#[test]
+fn reading_refuses_by_motion() {
+    assert_eq!(body("M15"), (12, 7));
+    assert_eq!(body("M16"), (12, 7));
+    assert_eq!(body("G01X1Y1"), (12, 7));
+    assert_eq!(body("G02X1Y1A9"), (12, 7));
+    assert_eq!(rout("M15"), (12, 8));
+    assert_eq!(rout("G05"), (12, 8));
+    assert_eq!(rout("G00X1Y1"), (12, 8));
+    assert_eq!(rout("X1Y1"), (12, 8));
+    assert_eq!(rout("T01"), (12, 8));
+    assert_eq!(rout("T02"), (12, 8), "before 10");
+    assert_eq!(rout("M30"), (12, 8));
+    assert_eq!(body("G00X1Y1\nG01X1Y2"), (12, 8), "tool up");
+}
+
+#[test]
+fn reading_refuses_tools() {
+    assert_eq!(header("T01C1\nT01C2"), (9, 4));
+    assert_eq!(header("T25C1\nT50C1\nT75C1\nT99C1\nT24C1\nT99C1"), (9, 8));
+    assert_eq!(body("T2"), (10, 7));
+    assert_eq!(verdict(b"M48\nINCH\nT01C1\n%\nG05\nX0Y0\n"), (11, 6));
+    assert_eq!(verdict(b"M48\nINCH\nT01C1\n%\nG00X0Y0\nM15\n"), (11, 6));
+    assert_eq!(verdict(b"M48\nINCH\nT01C1\n%\nX0Y0\n"), (12, 5), "12 before 11");
+}
+
+#[test]
+fn reading_refuses_impossible_arcs() {
+    assert_eq!(rout("G02X0Y0A1"), (13, 8));
+    assert_eq!(rout("G03X-0Y+0A1"), (13, 8));
+    assert_eq!(rout("G02X2Y0A1").0, 0);
+    assert_eq!(rout("G02X2.000001Y0A1"), (13, 8));
+    assert_eq!(rout("G02X3Y4A2.5").0, 0);
+    assert_eq!(rout("G02X3Y4A2.499999"), (13, 8));
+    let far = "G01X-999.999999Y-999.999999\n";
+    assert_eq!(rout(&format!("{far}G02X999.999999Y-999.999999A999.999999")).0, 0);
+    assert_eq!(rout(&format!("{far}G02X999.999999Y-999.999999A999.999998")), (13, 9));
+    assert_eq!(rout(&format!("{far}G02X999.999999Y999.999999A999.999999")), (13, 9));
+}
+
+#[test]
+fn reading_refuses_a_short_table_last() {
+    let mut table = vec![PATTERN; 15 * BENCH_LINES - 1];
+    assert_eq!(read(BENCH.as_bytes(), &mut table), (15, 0));
+    assert!(table.iter().all(|&number| number == PATTERN));
+    assert_eq!(read(BENCH.replace("M30\n", "").as_bytes(), &mut []), (14, 15));
+    assert_eq!(print(BENCH.replace("M30\n", "").as_bytes()), b"refused\t14\t15\n");
+}
+
+#[test]
+fn editing_refuses_sizes_lines_and_ends() {
+    let good = bench();
+    let mut table = good.clone();
+    for n in [0, BENCH_LINES + 1, 1_000, 1_001, usize::MAX, usize::MAX / 15 + 1] {
+        assert_eq!(edit(&mut table, n, 0, b"\n"), (18, 0));
+    }
+    for line in [0, 16, 1_000, usize::MAX, 1 << 32] {
+        assert_eq!(edit(&mut table, BENCH_LINES, line, b"\n"), (16, 0));
+    }
+    table[0] = 99;
+    for text in [&b"\n"[..], b"\r", b"X1Y1\r", b";\n;", &[b'\n'; 300]] {
+        assert_eq!(edit(&mut table, BENCH_LINES, 1, text), (17, 0));
+    }
+    table[0] = 1;
+    assert_eq!(table, good);
+}
+
+#[test]
+fn editing_refuses_as_reading_does() {
+    assert_eq!(edited(8, &";".repeat(257)), (6, 8));
+    assert_eq!(edited(8, "X1\tY1"), (4, 8));
+    assert_eq!(edited(8, ""), (5, 8));
+    assert_eq!(edited(8, "X1000Y1"), (7, 8));
+    assert_eq!(edited(8, "METRIC"), (8, 8));
+    assert_eq!(edited(4, "T01C1"), (9, 4));
+    assert_eq!(edited(9, "T8"), (10, 9));
+    assert_eq!(edited(7, ";"), (11, 8));
+    assert_eq!(edited(8, "M15"), (12, 8));
+    assert_eq!(edited(13, "G03X4Y0A1"), (13, 13));
+    assert_eq!(edited(12, "G01X0Y9"), (13, 13));
+    assert_eq!(edited(15, "G05"), (14, 16));
+}
+
+#[test]
+fn editing_looks_at_the_rows_of_its_span_only() {
+    let bad_at = |row: usize| {
+        let mut table = bench();
+        table[row * 15 - 10] = 5;
+        table
+    };
+    // The row before, the edited row, and rows on the way.
+    assert_eq!(edit(&mut bad_at(7), BENCH_LINES, 8, b"X2Y3"), (18, 7));
+    assert_eq!(edit(&mut bad_at(8), BENCH_LINES, 8, b""), (18, 8));
+    assert_eq!(edit(&mut bad_at(6), BENCH_LINES, 8, b"X2Y3"), (0, 8));
+    assert_eq!(edit(&mut bad_at(9), BENCH_LINES, 8, b"X2Y3"), (0, 8));
+    assert_eq!(edit(&mut bad_at(13), BENCH_LINES, 12, b"G01X4Y1"), (18, 13));
+    assert_eq!(edit(&mut bad_at(14), BENCH_LINES, 12, b"G01X4Y1"), (0, 13));
+    assert_eq!(edit(&mut bad_at(15), BENCH_LINES, 2, b"INCH"), (18, 15));
+    // The row's test comes before its own refusal.
+    assert_eq!(edit(&mut bad_at(7), BENCH_LINES, 3, b"T02C0.5"), (18, 7));
+    assert_eq!(edit(&mut bad_at(8), BENCH_LINES, 3, b"T02C0.5"), (10, 7));
+}
+
+#[test]
+fn editing_a_bad_table_may_end_by_agreement() {
+    // Cut before M30: the last row agrees, so 14 isn't tested.
+    let mut table = bench();
+    assert_eq!(edit(&mut table, 8, 8, b"X2Y3"), (0, 8));
+    assert_eq!(edit(&mut table, 8, 8, b"T07"), (14, 9));
+    // A selected tool outside the declared set is in range, and a hit asks no more.
+    table[7 * 15 - 7] = 50;
+    assert_eq!(edit(&mut table, 8, 8, b"X2Y4"), (14, 9));
+}
+
+#[test]
+fn every_number_of_a_row_has_its_range() {
+    let row = bench()[12 * 15..13 * 15].to_vec();
+    let outside: [(usize, &[i32]); 15] = [
+        (0, &[-1, 16, 0, 9]),
+        (1, &[1, -1, 100]),
+        (2, &[MAX + 1, MIN - 1, i32::MIN, i32::MAX]),
+        (3, &[MAX + 1, MIN - 1]),
+        (4, &[0, -1, MAX + 1]),
+        (5, &[-1, 5]),
+        (6, &[-1, 3]),
+        (7, &[-1, 4]),
+        (8, &[-1, 100]),
+        (9, &[MAX + 1, MIN - 1]),
+        (10, &[MAX + 1, MIN - 1]),
+        (11, &[-1, 1, 3, MAX_WORD, MAX_WORD + 1]),
+        (12, &[-1, MAX_WORD + 1]),
+        (13, &[-1, MAX_WORD + 1]),
+        (14, &[-1, MAX_WORD + 1]),
+    ];
+    for (field, values) in outside {
+        for &value in values {
+            let mut row = row.clone();
+            row[field] = value;
+            assert_eq!(decode(&row), None, "{field} {value}");
+        }
+    }
+    let inside: [(usize, &[i32]); 10] = [
+        (2, &[MAX, MIN]),
+        (4, &[1, MAX]),
+        (5, &[0, 4]),
+        (6, &[0, 2]),
+        (7, &[0, 3]),
+        (8, &[0, 99]),
+        (9, &[MAX, MIN]),
+        (11, &[0, MAX_WORD - 1]),
+        (12, &[1, MAX_WORD]),
+        (14, &[1, MAX_WORD]),
+    ];
+    for (field, values) in inside {
+        for &value in values {
+            let mut row = row.clone();
+            row[field] = value;
+            assert!(decode(&row).is_some(), "{field} {value}");
+        }
+    }
+}
+
+#[test]
+fn holes_are_found_or_refused() {
+    let table = bench();
+    let ask = |table: &[i32], n, line, length| {
+        let mut found = vec![PATTERN; length];
+        (hole(table, n, line, &mut found), found)
+    };
+    let none = vec![PATTERN; 7];
+    assert_eq!(
+        ask(&table, 15, 8, 7),
+        ((0, 1), vec![9, 1, 2_000_000, -3_500_000, 2_000_000, -3_500_000, 0])
+    );
+    assert_eq!(ask(&table, 15, 12, 8), ((0, 1), vec![12, 7, 0, 0, 4_000_000, 0, 0, PATTERN]));
+    assert_eq!(ask(&table, 15, 1, 7), ((0, 0), none.clone()));
+    assert_eq!(ask(&table, 15, 11, 7), ((0, 0), none));
+    assert_eq!(ask(&table, 15, 8, 6), ((15, 0), vec![PATTERN; 6]));
+    assert_eq!(ask(&table, 15, 1, 0), ((15, 0), vec![]));
+    assert_eq!(ask(&table, 15, 0, 0), ((16, 0), vec![]));
+    assert_eq!(ask(&table, 15, 16, 0), ((16, 0), vec![]));
+    assert_eq!(ask(&table, 0, 0, 0), ((18, 0), vec![]));
+    assert_eq!(ask(&table, 16, 0, 0), ((18, 0), vec![]));
+    assert_eq!(ask(&table, usize::MAX, usize::MAX, 0), ((18, 0), vec![]));
+    let mut bad = table.clone();
+    bad[11 * 15 - 1] = -1;
+    assert_eq!(ask(&bad, 15, 12, 0), ((18, 11), vec![]));
+    assert_eq!(ask(&bad, 15, 11, 0), ((18, 11), vec![]));
+    assert_eq!(ask(&bad, 15, 13, 7).0, (0, 1));
+    assert_eq!(ask(&bad, 15, 10, 7).0, (0, 0));
+}
+
+#[test]
+fn writing_refuses_bad_tables_before_short_texts() {
+    let good = bench();
+    for n in [0, 16, 1_001, usize::MAX] {
+        assert_eq!(write(&good, n, &mut []), (18, 0));
+    }
+    assert_eq!(write(&good, 14, &mut []), (18, 14));
+    for (line, field, value) in [(1, 5, 2), (3, 1, 0), (7, 8, 7), (8, 9, 1), (13, 4, 1), (15, 5, 3)]
+    {
+        let mut table = good.clone();
+        table[(line - 1) * 15 + field] = value;
+        assert_eq!(write(&table, 15, &mut []), (18, line as u32));
+    }
+    let length = BENCH.len() + 1;
+    let mut text = vec![b'~'; length - 1];
+    assert_eq!(write(&good, 15, &mut text), (15, 0));
+    assert!(text.iter().all(|&byte| byte == b'~'));
+    assert_eq!(write(&good, 15, &mut vec![0; length]), (0, length as u32));
+}
+
+#[test]
+fn written_numbers_have_no_spare_digits() {
+    let file = "M48\nINCH\nT09C000.100\n;x\n%\n;y\nT9\nG00X-000.5Y+5.\nM15\nG01X-0Y100.000001\n\
+                G02X-999.999999Y-899.999999A999.999999\nM16\nG05\nX10.010Y-.000001\nM30\n";
+    let expected = "M48\nINCH\nT09C0.1\n%\nT09\nG00X-0.5Y5\nM15\nG01X0Y100.000001\n\
+                    G02X-999.999999Y-899.999999A999.999999\nM16\nG05\nX10.01Y-0.000001\nM30\n";
+    let table = table_of(file);
+    let mut text = vec![0; expected.len()];
+    assert_eq!(write(&table, 15, &mut text), (0, expected.len() as u32));
+    assert_eq!(String::from_utf8(text).unwrap(), expected);
+    let kept: Vec<i32> = table.chunks(15).filter(|row| row[0] != 0).flatten().copied().collect();
+    assert_eq!(table_of(expected), kept);
+}
+
+#[test]
+fn diameters_are_found_or_refused() {
+    let table = bench();
+    assert_eq!(diameter(&table, 15, 1), (0, 500_000));
+    assert_eq!(diameter(&table, 15, 7), (0, 1_250_000));
+    assert_eq!(diameter(&table, 15, 2), (10, 0));
+    for tool in [0, 100, u32::MAX] {
+        assert_eq!(diameter(&table, 15, tool), (7, 0));
+    }
+    for n in [0, 16, 1_001, usize::MAX] {
+        assert_eq!(diameter(&table, n, 0), (18, 0));
+    }
+    let mut bad = table.clone();
+    bad[3 * 15 + 14] = -1;
+    assert_eq!(diameter(&bad, 15, 1), (0, 500_000));
+    assert_eq!(diameter(&bad, 15, 7), (18, 4));
+    assert_eq!(diameter(&bad, 15, 2), (18, 4));
+}

@@ -1,0 +1,763 @@
+//! Inputs for the comparison: valid files, commands for a given state, texts
+//! and tables damaged in every way that the paper names.
+//!
+//! What is legal where is worked out here a third time, in the loosest way
+//! that serves (`Model`), so that a generated file must be accepted by both.
+
+use crate::random::Random;
+
+pub const ROW: usize = 15;
+pub const MAX: i32 = 999_999_999;
+pub const MAX_LINES: usize = 1_000;
+pub const MAX_FILE: usize = 65_536;
+const MAX_WORD: i32 = 33_554_431;
+
+// ---------------------------------------------------------------- spelling
+
+/// A coordinate in millionths: extremes, round ones, any.
+pub fn coordinate(random: &mut Random) -> i32 {
+    const EDGES: [i32; 16] = [
+        0,
+        1,
+        -1,
+        10,
+        999_999,
+        -999_999,
+        1_000_000,
+        -1_000_000,
+        1_000_001,
+        500_000,
+        -500_000,
+        -50_000,
+        100_000_000,
+        999_000_000,
+        MAX,
+        -MAX,
+    ];
+    match random.below(8) {
+        0 => *random.pick(&EDGES),
+        1..=3 => random.from(-5, 5) * 1_000_000,
+        4 => random.from(-999_999, 999_999) * 1_000,
+        5 => random.from(-9, 9) * 100_000,
+        6 => random.from(-MAX, MAX),
+        _ => random.from(-9, 9),
+    }
+}
+
+/// A diameter or radius in millionths.
+pub fn size(random: &mut Random) -> i32 {
+    match random.below(4) {
+        0 => *random.pick(&[1, 2, 10, 100_000, 999_999, 1_000_000, MAX - 1, MAX]),
+        1 => random.from(1, 20) * 100_000,
+        2 => random.from(1, MAX),
+        _ => random.from(1, 50) * 1_000_000,
+    }
+}
+
+/// One of the spellings of a number: signs, leading zeros, points.
+pub fn spell(value: i32, signed: bool, random: &mut Random) -> String {
+    let digits = value.unsigned_abs();
+    let fraction = format!("{:06}", digits % 1_000_000);
+    let needed = fraction.trim_end_matches('0').len();
+    let decimals = if random.one_in(4) { needed + random.below(7 - needed) } else { needed };
+    let mut text = String::new();
+    if value < 0 || (signed && value == 0 && random.one_in(6)) {
+        text.push('-');
+    } else if signed && random.one_in(8) {
+        text.push('+');
+    }
+    let zeros = match random.below(40) {
+        0..=2 => 1 + random.below(4),
+        3 => random.below(40),
+        4 if random.one_in(4) => random.below(200),
+        _ => 0,
+    };
+    text.push_str(&"0".repeat(zeros));
+    let whole = digits / 1_000_000;
+    if whole != 0 || decimals == 0 || !random.one_in(3) {
+        text.push_str(&whole.to_string());
+    }
+    if decimals > 0 || random.one_in(10) {
+        text.push('.');
+        text.push_str(&fraction[..decimals]);
+    }
+    text
+}
+
+fn point(x: i32, y: i32, random: &mut Random) -> String {
+    format!("X{}Y{}", spell(x, true, random), spell(y, true, random))
+}
+
+fn select(tool: i32, random: &mut Random) -> String {
+    if tool < 10 && random.one_in(2) {
+        format!("T{tool}")
+    } else {
+        format!("T{tool:02}")
+    }
+}
+
+fn tool(random: &mut Random) -> i32 {
+    match random.below(3) {
+        0 => *random.pick(&[1, 9, 10, 24, 25, 26, 49, 50, 51, 74, 75, 76, 98, 99]),
+        1 => random.from(1, 5),
+        _ => random.from(1, 99),
+    }
+}
+
+pub fn comment(random: &mut Random) -> String {
+    let length = match random.below(30) {
+        0 => 255,
+        1 => random.below(256),
+        2..=9 => 0,
+        _ => random.below(16),
+    };
+    let mut text = String::from(";");
+    while text.len() <= length {
+        let byte = random.from(32, 126) as u8;
+        if byte != b';' {
+            text.push(char::from(byte));
+        }
+    }
+    text
+}
+
+/// A well-formed command, whether or not it is allowed anywhere.
+pub fn any_command(random: &mut Random) -> String {
+    let (x, y, radius) = (coordinate(random), coordinate(random), size(random));
+    let point = point(x, y, random);
+    match random.below(20) {
+        0 => comment(random),
+        1 => "M48".into(),
+        2 => "METRIC".into(),
+        3 => "INCH".into(),
+        4 => {
+            let tool = tool(random);
+            format!("T{tool:02}C{}", spell(radius, false, random))
+        }
+        5 => "%".into(),
+        6 | 7 => "G05".into(),
+        8 => format!("G00{point}"),
+        9 | 10 => {
+            let tool = tool(random);
+            select(tool, random)
+        }
+        11 | 12 => point,
+        13 => "M15".into(),
+        14 => "M16".into(),
+        15 | 16 => format!("G01{point}"),
+        17 => format!("G02{point}A{}", spell(radius, false, random)),
+        18 => format!("G03{point}A{}", spell(radius, false, random)),
+        _ => "M30".into(),
+    }
+}
+
+/// Lines that are wrong, or right only just, parted by `|`.
+const ODD_LINES: [&str; 9] = [
+    "| |M|M4|M47|M480|m48|M48 | M48|METRI|METRIC,LZ|metric|INC|INCHES|%%|% |G|G0|G5|G05 ",
+    "G05X1Y1|G06|G00|G00X|G00X1|G00X1Y|G00Y1X1|G00X1Y1A1|G0X1Y1|G04X1Y1|G01|G01X1Y1A1",
+    "G02X1Y1|G02X1Y1A|G02X1Y1A0|G02X1Y1A-1|G02X1Y1A+1|G02X1Y1A1000|G02X1Y1A.0000001",
+    "G02X1Y1A1.|G03X1Y1A1X1|G03X1Y1A1 |G03X1Y1A0.0|G03X1000Y1A|G03X1Y1Aq|T|TX|T0|T00",
+    "T000|T1 |T001|T100|T1C0.6|T0C1|T00C1|T00C|T00C0|T01C|T01C0|T01C.|T01C.0|T01C-1",
+    "T01C+1|T01C1000|T01C999.999999|T01C0.0000001|T01C0.000001|T01C1C1|T100C1|T99C1|t1",
+    "T1;|TC1|T-1|X|Y|XY|X1|X1Y|XY1|X.Y.|X1Y.|X+Y-|X--1Y1|X+-1Y1|X1..Y1|X1.2.3Y1|X1000Y0",
+    "X0Y-1000|X1000Yq|X999.9999990Y0|X1.0000000Y1|X-0Y+0|X5.Y.5|X1Y1X1Y1|X 1Y1|X1,Y1",
+    "M15M16|M3|M30;|M300|;;|; x ; y",
+];
+
+pub fn odd_line(random: &mut Random) -> Vec<u8> {
+    match random.below(8) {
+        0 => format!("X{}Y0", "9".repeat(1 + random.below(254))).into_bytes(),
+        1 => format!("X{}1.5Y0", "0".repeat(random.below(252))).into_bytes(),
+        2 => {
+            // The two lengths about the limit, and others.
+            let length = *random.pick(&[255, 256, 257, 258, 300, 1_000]);
+            let filler = *random.pick(&[b'x', b' ', b';', 0, 200]);
+            let mut text = vec![filler; length];
+            text[0] = *random.pick(b";;;X%");
+            text
+        }
+        _ => {
+            let lines: Vec<&str> = random.pick(&ODD_LINES).split('|').collect();
+            random.pick(&lines).as_bytes().to_vec()
+        }
+    }
+}
+
+/// All texts of up to `length` bytes of an alphabet.
+pub fn all_texts(alphabet: &str, length: usize) -> Vec<String> {
+    let mut texts = vec![String::new()];
+    let mut start = 0;
+    for _ in 0..length {
+        let end = texts.len();
+        for at in start..end {
+            for letter in alphabet.chars() {
+                texts.push(format!("{}{letter}", texts[at]));
+            }
+        }
+        start = end;
+    }
+    texts
+}
+
+// ------------------------------------------------------------------- model
+
+/// As much of the state as is needed to choose a command that is allowed.
+#[derive(Clone, Debug)]
+pub struct Model {
+    phase: i32,
+    motion: i32,
+    tool: i32,
+    x: i32,
+    y: i32,
+    declared: Vec<i32>,
+}
+
+impl Model {
+    pub fn start() -> Model {
+        Model { phase: 0, motion: 0, tool: 0, x: 0, y: 0, declared: Vec::new() }
+    }
+
+    /// What a row says of the state after it.
+    pub fn after_row(row: &[i32]) -> Model {
+        let has = |tool: &i32| row[11 + *tool as usize / 25] >> (tool % 25) & 1 == 1;
+        Model {
+            phase: row[5],
+            motion: row[7],
+            tool: row[8],
+            x: row[9],
+            y: row[10],
+            declared: (1..=99).filter(has).collect(),
+        }
+    }
+
+    /// An arc's end and the least radius that reaches it, both in range.
+    fn arc(&self, random: &mut Random) -> Option<(i32, i32, i32)> {
+        let k = random.from(1, 500_000);
+        let (x, y) = match random.below(6) {
+            0 => (coordinate(random), coordinate(random)),
+            1 => (self.x.saturating_neg(), self.y),
+            2 => (self.x, self.y.saturating_neg()),
+            3 => (
+                self.x.saturating_add(random.from(-9, 9)),
+                self.y.saturating_add(random.from(-9, 9)),
+            ),
+            4 => (self.x.saturating_add(6 * k), self.y.saturating_sub(8 * k)),
+            _ => (self.x.saturating_sub(2 * k), self.y),
+        };
+        let (x, y) = (x.clamp(-MAX, MAX), y.clamp(-MAX, MAX));
+        let dx = i128::from(x) - i128::from(self.x);
+        let dy = i128::from(y) - i128::from(self.y);
+        let apart = dx * dx + dy * dy;
+        let mut radius = ((apart as f64).sqrt() / 2.0) as i128;
+        while 4 * radius * radius < apart {
+            radius += 1;
+        }
+        while radius > 0 && 4 * (radius - 1) * (radius - 1) >= apart {
+            radius -= 1;
+        }
+        if apart > 0 && radius <= i128::from(MAX) {
+            Some((x, y, radius as i32))
+        } else {
+            None
+        }
+    }
+
+    /// A command that this state allows; the state after it.
+    pub fn allowed(&mut self, random: &mut Random) -> String {
+        loop {
+            let mut next = self.clone();
+            let text = next.try_allowed(random);
+            if text.len() <= 256 {
+                *self = next;
+                return text;
+            }
+        }
+    }
+
+    fn try_allowed(&mut self, random: &mut Random) -> String {
+        if random.one_in(10) {
+            return comment(random);
+        }
+        match self.phase {
+            0 => {
+                self.phase = 1;
+                "M48".into()
+            }
+            1 => {
+                self.phase = 2;
+                random.pick(&["METRIC", "INCH"]).to_string()
+            }
+            2 => {
+                let tool = tool(random);
+                if self.declared.contains(&tool) {
+                    return comment(random);
+                }
+                self.declared.push(tool);
+                let diameter = size(random);
+                format!("T{tool:02}C{}", spell(diameter, false, random))
+            }
+            3 if self.motion == 3 => self.rout(random),
+            3 => self.move_or_hit(random),
+            _ => any_command(random),
+        }
+    }
+
+    fn rout(&mut self, random: &mut Random) -> String {
+        match (random.below(5), self.arc(random)) {
+            (0, _) => {
+                self.motion = 2;
+                "M16".into()
+            }
+            (1..=3, Some((x, y, least))) => {
+                let radius = match random.below(3) {
+                    0 => least,
+                    1 => random.from(least, least.saturating_add(9).min(MAX)),
+                    _ => random.from(least, MAX),
+                };
+                (self.x, self.y) = (x, y);
+                let command = random.pick(&["G02", "G03"]);
+                format!("{command}{}A{}", point(x, y, random), spell(radius, false, random))
+            }
+            _ => {
+                (self.x, self.y) = (coordinate(random), coordinate(random));
+                format!("G01{}", point(self.x, self.y, random))
+            }
+        }
+    }
+
+    fn move_or_hit(&mut self, random: &mut Random) -> String {
+        let (x, y) = (coordinate(random), coordinate(random));
+        match random.below(8) {
+            0 => {
+                self.motion = 1;
+                (self.x, self.y) = (0, 0);
+                "G05".into()
+            }
+            1 => {
+                self.motion = 2;
+                (self.x, self.y) = (x, y);
+                format!("G00{}", point(x, y, random))
+            }
+            2 | 3 if !self.declared.is_empty() => {
+                self.tool = *random.pick(&self.declared);
+                select(self.tool, random)
+            }
+            _ if self.tool != 0 && self.motion == 1 => point(x, y, random),
+            _ if self.tool != 0 && self.motion == 2 => {
+                self.motion = 3;
+                "M15".into()
+            }
+            _ => comment(random),
+        }
+    }
+
+    /// An arc that this state refuses, only just where it can be.
+    pub fn refused_arc(&self, random: &mut Random) -> String {
+        let command = random.pick(&["G02", "G03"]);
+        let (x, y, radius) = match self.arc(random) {
+            Some((x, y, least)) if least > 1 && !random.one_in(4) => (x, y, least - 1),
+            _ => (self.x.clamp(-MAX, MAX), self.y.clamp(-MAX, MAX), size(random)),
+        };
+        format!("{command}{}A{}", point(x, y, random), spell(radius, false, random))
+    }
+}
+
+/// A text for one line, the state before it known: mostly allowed there,
+/// else refused there, odd, damaged, or holding bytes that no line may.
+pub fn text_for(before: &Model, random: &mut Random) -> Vec<u8> {
+    let mut text = match random.below(10) {
+        0..=3 => before.clone().allowed(random).into_bytes(),
+        4..=5 => any_command(random).into_bytes(),
+        6 => before.refused_arc(random).into_bytes(),
+        7 => odd_line(random),
+        8 => comment(random).into_bytes(),
+        _ if before.declared.is_empty() => b"T01".to_vec(),
+        _ => {
+            let tool = *random.pick(&before.declared);
+            select(tool, random).into_bytes()
+        }
+    };
+    if random.one_in(12) {
+        worsen_number(&mut text, random);
+    }
+    if random.one_in(8) {
+        change_bytes(&mut text, random);
+    }
+    text
+}
+
+// ------------------------------------------------------------------- files
+
+#[derive(Clone)]
+pub struct File {
+    pub lines: Vec<Vec<u8>>,
+    pub ends: Vec<&'static [u8]>,
+}
+
+impl File {
+    pub fn bytes(&self) -> Vec<u8> {
+        let mut bytes = Vec::new();
+        for (line, end) in self.lines.iter().zip(&self.ends) {
+            bytes.extend_from_slice(line);
+            bytes.extend_from_slice(end);
+        }
+        bytes
+    }
+
+    fn insert(&mut self, at: usize, text: Vec<u8>) {
+        self.lines.insert(at, text);
+        self.ends.insert(at, b"\n");
+    }
+}
+
+/// A file that must be accepted, of some `lines` lines.
+pub fn valid_file(lines: usize, random: &mut Random) -> File {
+    let mut texts: Vec<String> = Vec::new();
+    let mut model = Model::start();
+    let header = match random.below(20) {
+        0 => 0,
+        1 => 120,
+        _ => random.below(8),
+    };
+    while model.phase < 2 {
+        texts.push(model.allowed(random));
+    }
+    for _ in 0..header {
+        texts.push(model.allowed(random));
+    }
+    if header == 120 {
+        // Every tool there is.
+        for tool in 1..=99 {
+            if !model.declared.contains(&tool) {
+                model.declared.push(tool);
+                texts.push(format!("T{tool:02}C{}", spell(tool * 10_001, false, random)));
+            }
+        }
+    }
+    texts.push("%".into());
+    model.phase = 3;
+    while texts.len() + 2 < lines {
+        texts.push(model.allowed(random));
+    }
+    if model.motion == 3 {
+        texts.push("M16".into());
+    }
+    texts.push("M30".into());
+
+    let style = random.below(4);
+    let ends = texts.iter().map(|_| match style {
+        0 => &b"\r\n"[..],
+        1 if random.one_in(2) => b"\r\n",
+        _ => b"\n",
+    });
+    let ends = ends.collect();
+    File { lines: texts.into_iter().map(String::into_bytes).collect(), ends }
+}
+
+// ------------------------------------------------------------------ damage
+
+/// One to three single bytes changed, put in or taken out.
+pub fn change_bytes(text: &mut Vec<u8>, random: &mut Random) {
+    const TELLING: &[u8] = b"0123456789+-.;XYATCGM% \r\n\t\0\x1f\x7f\x80\xff~x";
+    for _ in 0..1 + random.below(3) {
+        let at = random.below(text.len() + 1);
+        let byte = match random.below(3) {
+            0 => random.next() as u8,
+            _ => *random.pick(TELLING),
+        };
+        match random.below(3) {
+            0 => text.insert(at, byte),
+            1 if at < text.len() => text[at] = byte,
+            _ if at < text.len() => {
+                text.remove(at);
+            }
+            _ => {}
+        }
+    }
+}
+
+/// The file with some line of its kind damaged, or its lines shifted.
+fn change_lines(file: &mut File, random: &mut Random) {
+    let count = file.lines.len();
+    if count == 0 {
+        return;
+    }
+    let at = random.below(count);
+    let other = random.below(count);
+    match random.below(14) {
+        0 => file.lines.swap(at, other),
+        1 => {
+            file.lines.remove(at);
+            file.ends.remove(at);
+        }
+        2 => {
+            let text = file.lines[at].clone();
+            file.insert(at, text);
+        }
+        3 => {
+            let text = file.lines[other].clone();
+            file.insert(at, text);
+        }
+        4 => file.lines[at] = any_command(random).into_bytes(),
+        5 => file.insert(at, any_command(random).into_bytes()),
+        6 => file.lines[at] = odd_line(random),
+        7 => file.insert(at, odd_line(random)),
+        8 => change_bytes(&mut file.lines[at], random),
+        9 => {
+            file.ends[at] =
+                *random.pick(&[&b""[..], b"\r", b"\r\r\n", b"\n\r", b"\n\n", b"\r\n\r\n"])
+        }
+        10 => {
+            // A forbidden byte in the line.
+            let byte = *random.pick(&[0u8, 9, 13, 31, 127, 128, 255]);
+            let place = random.below(file.lines[at].len() + 1);
+            file.lines[at].insert(place, byte);
+        }
+        11 => {
+            // The line made long: 256 bytes, 257, or more.
+            let length = *random.pick(&[255, 256, 256, 257, 257, 258, 400]);
+            let byte = *random.pick(b"00 x\0");
+            let place = match file.lines[at].iter().position(|byte| byte.is_ascii_digit()) {
+                Some(place) if random.one_in(2) => place,
+                _ => file.lines[at].len(),
+            };
+            while file.lines[at].len() < length {
+                file.lines[at].insert(place, byte);
+            }
+        }
+        12 => {
+            worsen_number(&mut file.lines[at], random);
+            if random.one_in(4) {
+                change_bytes(&mut file.lines[at], random);
+            }
+        }
+        _ => {
+            // Something after the end.
+            let text = match random.below(3) {
+                0 => Vec::new(),
+                1 => comment(random).into_bytes(),
+                _ => any_command(random).into_bytes(),
+            };
+            file.insert(count, text);
+        }
+    }
+}
+
+/// One number of the line replaced by a bad one, or by one that just passes.
+fn worsen_number(line: &mut Vec<u8>, random: &mut Random) {
+    const BAD: [&str; 24] = [
+        "1000",
+        "-1000",
+        "999.9999999",
+        "1.0000000",
+        "0.0000000",
+        "0",
+        "-0",
+        "+1",
+        "-1",
+        ".",
+        "",
+        "-",
+        "+",
+        "1.2.3",
+        "1e3",
+        "1000000000",
+        "4294967296",
+        "4294967297",
+        "18446744073709551617",
+        "999.999999",
+        "-999.999999",
+        "00000000000000000001",
+        "0.0000001",
+        "1,5",
+    ];
+    let letters: Vec<usize> = (0..line.len()).filter(|&at| b"XYACT".contains(&line[at])).collect();
+    if letters.is_empty() {
+        return;
+    }
+    let start = *random.pick(&letters) + 1;
+    let is_number = |byte: &&u8| b"0123456789+-.".contains(byte);
+    let end = start + line[start..].iter().take_while(is_number).count();
+    line.splice(start..end, random.pick(&BAD).bytes());
+}
+
+/// The bytes of a damaged copy of `file`.
+pub fn damaged(file: &File, random: &mut Random) -> Vec<u8> {
+    let mut file = file.clone();
+    if random.one_in(3) {
+        let mut bytes = file.bytes();
+        change_bytes(&mut bytes, random);
+        return bytes;
+    }
+    if random.one_in(10) {
+        // Cut short anywhere, or only the last LF missing.
+        let mut bytes = file.bytes();
+        let length = match random.below(3) {
+            0 => bytes.len().saturating_sub(1),
+            1 => bytes.len().saturating_sub(2),
+            _ => random.below(bytes.len() + 1),
+        };
+        bytes.truncate(length);
+        return bytes;
+    }
+    if random.one_in(8) {
+        refuse_an_arc(&mut file, random);
+    }
+    for _ in 0..1 + random.below(3) {
+        change_lines(&mut file, random);
+    }
+    file.bytes()
+}
+
+/// An impossible arc put in front of an `M16`.
+fn refuse_an_arc(file: &mut File, random: &mut Random) {
+    if let Some(at) = file.lines.iter().position(|line| line == b"M16") {
+        let mut model = Model::start();
+        (model.x, model.y) = (coordinate(random), coordinate(random));
+        let from = format!("G01{}", point(model.x, model.y, random));
+        file.insert(at, model.refused_arc(random).into_bytes());
+        file.insert(at, from.into_bytes());
+    }
+}
+
+/// A file of exactly `bytes` bytes, accepted but for its size.
+pub fn file_of_bytes(bytes: usize) -> Vec<u8> {
+    let (head, tail) = (b"M48\nINCH\n%\n", b"M30\n");
+    let mut file = head.to_vec();
+    let mut left = bytes - head.len() - tail.len();
+    while left > 0 {
+        // 257 at a time, and never a single byte left over.
+        let length = if left == 258 { 256 } else { left.min(257) };
+        file.push(b';');
+        file.resize(file.len() + length - 2, b'c');
+        file.push(b'\n');
+        left -= length;
+    }
+    file.extend_from_slice(tail);
+    file
+}
+
+/// A file of exactly `lines` lines, accepted but for their count.
+pub fn file_of_lines(lines: usize, random: &mut Random) -> File {
+    let mut file = valid_file(lines.saturating_sub(130), random);
+    // Comments in front of the last line.
+    while file.lines.len() < lines {
+        file.insert(file.lines.len() - 1, b";".to_vec());
+    }
+    file
+}
+
+// ------------------------------------------------------------------ tables
+
+/// Numbers about the edges of all fields of a row.
+pub const TABLE_EDGES: [i32; 34] = [
+    -1,
+    0,
+    1,
+    2,
+    3,
+    4,
+    5,
+    6,
+    7,
+    8,
+    9,
+    10,
+    11,
+    12,
+    13,
+    14,
+    15,
+    16,
+    24,
+    25,
+    99,
+    100,
+    101,
+    MAX_WORD - 1,
+    MAX_WORD,
+    MAX_WORD + 1,
+    MAX,
+    MAX + 1,
+    -MAX,
+    -MAX - 1,
+    1_000_000,
+    i32::MIN,
+    i32::MAX,
+    256,
+];
+
+fn table_number(now: i32, random: &mut Random) -> i32 {
+    match random.below(6) {
+        0..=2 => *random.pick(&TABLE_EDGES),
+        3 => now.wrapping_add(*random.pick(&[1, -1, 2, 1_000_000])),
+        4 => now ^ (1 << random.below(32)),
+        _ => random.next() as i32,
+    }
+}
+
+/// One number of row `row` (from 0) changed, often one of its state.
+pub fn spoil_row(table: &mut [i32], row: usize, random: &mut Random) {
+    let field = random.below(ROW);
+    let number = &mut table[row * ROW + field];
+    *number = table_number(*number, random);
+}
+
+/// A row within all ranges, its state not following from anything, but from
+/// few enough values that states often agree.
+pub fn loose_row(random: &mut Random) -> [i32; ROW] {
+    let mut row = [0; ROW];
+    row[0] = match random.below(4) {
+        0 => random.from(0, 15),
+        1 => *random.pick(&[0, 6, 8, 9]),
+        _ => *random.pick(&[7, 9, 10, 11, 12, 12, 13, 14, 15]),
+    };
+    let place = |random: &mut Random| match random.below(8) {
+        0 => coordinate(random),
+        _ => random.from(-1, 1) * 1_000_000,
+    };
+    match row[0] {
+        4 | 8 => row[1] = if random.one_in(3) { tool(random) } else { random.from(1, 2) },
+        7 | 9 | 12..=14 => {
+            row[2] = place(random);
+            row[3] = place(random);
+        }
+        _ => {}
+    }
+    if matches!(row[0], 4 | 13 | 14) {
+        row[4] = size(random);
+    }
+    row[5] = if random.one_in(6) { random.from(0, 4) } else { 3 };
+    row[6] = if random.one_in(6) { random.from(0, 2) } else { 1 };
+    row[7] = if random.one_in(3) { random.from(0, 3) } else { 3 };
+    row[8] = if random.one_in(6) { random.from(0, 99) } else { random.from(0, 1) };
+    row[9] = place(random);
+    row[10] = place(random);
+    row[11] = if random.one_in(6) { random.from(0, MAX_WORD) & !1 } else { 6 };
+    for word in &mut row[12..] {
+        *word = if random.one_in(12) { random.from(0, MAX_WORD) } else { 0 };
+    }
+    row
+}
+
+/// `rows` rows within their ranges, otherwise loose, or plain noise.
+pub fn loose_table(rows: usize, random: &mut Random) -> Vec<i32> {
+    let mut table = Vec::with_capacity(rows * ROW);
+    if random.one_in(10) {
+        table.extend((0..rows * ROW).map(|_| random.next() as i32));
+        return table;
+    }
+    for row in 0..rows {
+        let mut numbers = loose_row(random);
+        // Often the point of the row before, and the state of this one by rule.
+        if row > 0 && random.one_in(2) {
+            let before = table[(row - 1) * ROW + 5..row * ROW].to_vec();
+            numbers[5..].copy_from_slice(&before);
+            if matches!(numbers[0], 7 | 12 | 13 | 14) {
+                (numbers[9], numbers[10]) = (numbers[2], numbers[3]);
+            }
+        }
+        table.extend_from_slice(&numbers);
+    }
+    table
+}

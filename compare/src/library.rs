@@ -1,0 +1,74 @@
+//! The two implementations behind one face: plain Rust, and the one under
+//! test. Built with `--cfg selftest` the one under test is a second copy of
+//! plain Rust (crate `subject`), so that the comparison itself can be tried.
+
+/// `(0, count)` on success, `(number, line)` on refusal.
+pub type Answer = (u32, u32);
+
+pub trait Library {
+    const NAME: &'static str;
+    fn read(file: &[u8], table: &mut [i32]) -> Answer;
+    fn edit(table: &mut [i32], n: usize, line: usize, text: &[u8]) -> Answer;
+    fn hole(table: &[i32], n: usize, line: usize, hole: &mut [i32]) -> Answer;
+    fn write(table: &[i32], n: usize, text: &mut [u8]) -> Answer;
+}
+
+pub struct Plain;
+
+impl Library for Plain {
+    const NAME: &'static str = "plain";
+    fn read(file: &[u8], table: &mut [i32]) -> Answer {
+        plain::read(file, table)
+    }
+    fn edit(table: &mut [i32], n: usize, line: usize, text: &[u8]) -> Answer {
+        plain::edit(table, n, line, text)
+    }
+    fn hole(table: &[i32], n: usize, line: usize, hole: &mut [i32]) -> Answer {
+        plain::hole(table, n, line, hole)
+    }
+    fn write(table: &[i32], n: usize, text: &mut [u8]) -> Answer {
+        plain::write(table, n, text)
+    }
+}
+
+/// The implementation under test.
+pub struct Xnc;
+
+#[cfg(not(selftest))]
+impl Library for Xnc {
+    const NAME: &'static str = "xnc";
+    fn read(file: &[u8], table: &mut [i32]) -> Answer {
+        pair(xnc::read(file, table))
+    }
+    fn edit(table: &mut [i32], n: usize, line: usize, text: &[u8]) -> Answer {
+        pair(xnc::edit(table, n, line, text))
+    }
+    fn hole(table: &[i32], n: usize, line: usize, hole: &mut [i32]) -> Answer {
+        pair(xnc::hole(table, n, line, hole))
+    }
+    fn write(table: &[i32], n: usize, text: &mut [u8]) -> Answer {
+        pair(xnc::write(table, n, text))
+    }
+}
+
+#[cfg(not(selftest))]
+fn pair(answer: xnc::Answer) -> Answer {
+    (answer.number, answer.value)
+}
+
+#[cfg(selftest)]
+impl Library for Xnc {
+    const NAME: &'static str = "subject";
+    fn read(file: &[u8], table: &mut [i32]) -> Answer {
+        subject::read(file, table)
+    }
+    fn edit(table: &mut [i32], n: usize, line: usize, text: &[u8]) -> Answer {
+        subject::edit(table, n, line, text)
+    }
+    fn hole(table: &[i32], n: usize, line: usize, hole: &mut [i32]) -> Answer {
+        subject::hole(table, n, line, hole)
+    }
+    fn write(table: &[i32], n: usize, text: &mut [u8]) -> Answer {
+        subject::write(table, n, text)
+    }
+}

@@ -1,0 +1,874 @@
+//! Compares two implementations of the XNC line table on many inputs.
+//!
+//! ```text
+//! compare [COUNT [SEED]]
+//! compare print COUNT SEED PROGRAM [ARGUMENT ...]
+//! ```
+//!
+//! The first form makes at least COUNT comparisons of single calls, from a
+//! fixed seed unless one is given. Each compares the answer and everything
+//! lent, with numbers or bytes before and behind it. What an edit and a
+//! writing promise is held against fresh readings, in both implementations.
+//! The second form compares what a program prints for COUNT files.
+//!
+//! It fails when a pair differs, when a promise is broken, or when a refusal
+//! that a function can give never came up.
+
+mod inputs;
+mod library;
+mod random;
+
+use inputs::{File, Model, MAX_FILE, MAX_LINES, ROW};
+use library::{Answer, Library, Plain, Xnc};
+use random::Random;
+use std::fmt::Write as _;
+use std::io::Write as _;
+use std::ops::Range;
+use std::process::{Command, ExitCode, Stdio};
+
+const COUNT: u64 = 400_000;
+const SEED: u64 = 20_211_101;
+const SHOWN: u64 = 5;
+
+const NAMES: [&str; 4] = ["read", "edit", "hole", "write"];
+const READ: usize = 0;
+const EDIT: usize = 1;
+const HOLE: usize = 2;
+const WRITE: usize = 3;
+
+/// The numbers that each function can give, 0 for success.
+const CAN_GIVE: [&[usize]; 4] = [
+    &[0, 1, 2, 3, 4, 5, 6, 7, 8, 9, 10, 11, 12, 13, 14, 15],
+    &[0, 4, 5, 6, 7, 8, 9, 10, 11, 12, 13, 14, 16, 17, 18],
+    &[0, 15, 16, 18],
+    &[0, 15, 18],
+];
+
+/// A copy of what is lent, with the same filling before and behind it.
+#[derive(Clone, PartialEq)]
+struct Lent<T> {
+    all: Vec<T>,
+    length: usize,
+}
+
+impl<T: Copy + PartialEq> Lent<T> {
+    const EDGE: usize = 16;
+
+    fn new(content: &[T], filling: T) -> Lent<T> {
+        let mut all = vec![filling; content.len() + 2 * Self::EDGE];
+        all[Self::EDGE..Self::EDGE + content.len()].copy_from_slice(content);
+        Lent { all, length: content.len() }
+    }
+
+    fn slice(&mut self) -> &mut [T] {
+        &mut self.all[Self::EDGE..Self::EDGE + self.length]
+    }
+
+    fn content(&self) -> &[T] {
+        &self.all[Self::EDGE..Self::EDGE + self.length]
+    }
+
+    /// Whether all outside `span` is as in `before`.
+    fn same_outside(&self, before: &Lent<T>, span: &Range<usize>) -> bool {
+        let start = Self::EDGE + span.start;
+        let end = Self::EDGE + span.end;
+        end <= self.all.len()
+            && self.all[..start] == before.all[..start]
+            && self.all[end..] == before.all[end..]
+    }
+}
+
+struct Comparison {
+    random: Random,
+    came_up: [[u64; 19]; 4],
+    holes: u64,
+    compared: u64,
+    promises: u64,
+    different: u64,
+}
+
+impl Comparison {
+    fn new(seed: u64) -> Comparison {
+        Comparison {
+            random: Random::new(seed),
+            came_up: [[0; 19]; 4],
+            holes: 0,
+            compared: 0,
+            promises: 0,
+            different: 0,
+        }
+    }
+
+    // -------------------------------------------------------- single calls
+
+    fn read(&mut self, file: &[u8], table: &[i32]) -> (Answer, Vec<i32>) {
+        let before = Lent::new(table, -7);
+        let pair = call(&before, |lent| Plain::read(file, lent), |lent| Xnc::read(file, lent));
+        let span = |(_, count): Answer| 0..count as usize * ROW;
+        self.judge(READ, &before, &pair, span, || {
+            format!("file \"{}\"\n{} numbers lent", file.escape_ascii(), table.len())
+        });
+        (pair.expected, pair.ours.content().to_vec())
+    }
+
+    fn edit(&mut self, table: &[i32], n: usize, line: usize, text: &[u8]) -> (Answer, Vec<i32>) {
+        let before = Lent::new(table, -7);
+        let pair = call(
+            &before,
+            |lent| Plain::edit(lent, n, line, text),
+            |lent| Xnc::edit(lent, n, line, text),
+        );
+        let span = |(_, meeting): Answer| (line - 1) * ROW..meeting as usize * ROW;
+        self.judge(EDIT, &before, &pair, span, || {
+            format!("n {n}, line {line}, text \"{}\"\n{}", text.escape_ascii(), rows(table))
+        });
+        (pair.expected, pair.ours.content().to_vec())
+    }
+
+    fn hole(&mut self, table: &[i32], n: usize, line: usize, length: usize) -> Answer {
+        let block: Vec<i32> = (0..length).map(|_| self.random.next() as i32).collect();
+        let before = Lent::new(&block, -7);
+        let pair = call(
+            &before,
+            |lent| Plain::hole(table, n, line, lent),
+            |lent| Xnc::hole(table, n, line, lent),
+        );
+        let span = |(_, count): Answer| 0..count as usize * 7;
+        self.judge(HOLE, &before, &pair, span, || {
+            format!("n {n}, line {line}, {length} numbers lent\n{}", rows(table))
+        });
+        if pair.expected == (0, 1) {
+            self.holes += 1;
+        }
+        pair.expected
+    }
+
+    fn write(&mut self, table: &[i32], n: usize, length: usize) -> (Answer, Vec<u8>) {
+        let before = Lent::new(&vec![b'~'; length], b'#');
+        let pair =
+            call(&before, |lent| Plain::write(table, n, lent), |lent| Xnc::write(table, n, lent));
+        let span = |(_, count): Answer| 0..count as usize;
+        self.judge(WRITE, &before, &pair, span, || {
+            format!("n {n}, {length} bytes lent\n{}", rows(table))
+        });
+        (pair.expected, pair.ours.content().to_vec())
+    }
+
+    /// Holds the pair's two sides against each other, and each against the
+    /// promise that a refusal changes nothing and success only its span.
+    fn judge<T: Copy + PartialEq>(
+        &mut self,
+        function: usize,
+        before: &Lent<T>,
+        pair: &Pair<T>,
+        span: impl Fn(Answer) -> Range<usize>,
+        input: impl Fn() -> String,
+    ) {
+        let name = NAMES[function];
+        self.compared += 1;
+        self.came_up[function][pair.expected.0 as usize] += 1;
+        if pair.expected != pair.found {
+            self.differs(&format!(
+                "{name}: {} answers {:?}, {} {:?}\n{}",
+                Plain::NAME,
+                pair.expected,
+                Xnc::NAME,
+                pair.found,
+                input()
+            ));
+        } else if pair.ours != pair.theirs {
+            let at = (0..pair.ours.all.len()).find(|&at| pair.ours.all[at] != pair.theirs.all[at]);
+            let at = at.unwrap_or(0) as i64 - Lent::<T>::EDGE as i64;
+            self.differs(&format!(
+                "{name}: both answer {:?}, what was lent differs from {at} on\n{}",
+                pair.expected,
+                input()
+            ));
+        }
+        let sides =
+            [(Plain::NAME, pair.expected, &pair.ours), (Xnc::NAME, pair.found, &pair.theirs)];
+        for (side, answer, lent) in sides {
+            let span = if answer.0 == 0 { span(answer) } else { 0..0 };
+            if !lent.same_outside(before, &span) {
+                self.differs(&format!("{name}: {side} changes more than it may\n{}", input()));
+            }
+        }
+    }
+
+    fn differs(&mut self, what: &str) {
+        self.different += 1;
+        if self.different <= SHOWN {
+            println!("DIFFERENT {what}\n");
+        }
+    }
+
+    fn promise(&mut self, side: &str, held: Result<(), String>) {
+        self.promises += 1;
+        if let Err(what) = held {
+            self.differs(&format!("promise broken by {side}: {what}"));
+        }
+    }
+
+    fn demand_3(&mut self, file: &File, line: usize, text: &[u8]) {
+        self.promise(Plain::NAME, edit_is_reading::<Plain>(file, line, text));
+        self.promise(Xnc::NAME, edit_is_reading::<Xnc>(file, line, text));
+    }
+
+    // ------------------------------------------------------- whole batches
+
+    /// Numbers to lend: noise, so that nothing is right by chance.
+    fn noise(&mut self, length: usize) -> Vec<i32> {
+        (0..length).map(|_| self.random.next() as i32).collect()
+    }
+
+    /// Reads a file that must be accepted; its table without what is beyond.
+    fn read_valid(&mut self, file: &File) -> Vec<i32> {
+        let n = file.lines.len();
+        let bytes = file.bytes();
+        let spare = self.random.below(20);
+        let lent = self.noise(n * ROW + spare);
+        let (answer, mut table) = self.read(&bytes, &lent);
+        if answer != (0, n as u32) {
+            self.differs(&format!("valid file answered {answer:?}: \"{}\"", bytes.escape_ascii()));
+        }
+        table.truncate(n * ROW);
+        table
+    }
+
+    fn read_damaged(&mut self, file: &File, times: usize) {
+        let n = file.lines.len();
+        for _ in 0..times {
+            let bytes = inputs::damaged(file, &mut self.random);
+            let length = match self.random.below(12) {
+                0 => self.random.below(n * ROW + 1),
+                1 => n * ROW - 1,
+                _ => (n + 4) * ROW,
+            };
+            let lent = self.noise(length);
+            self.read(&bytes, &lent);
+        }
+    }
+
+    fn read_into_short_tables(&mut self, file: &File) {
+        let n = file.lines.len();
+        let bytes = file.bytes();
+        for length in [n * ROW - 1, n * ROW, n * ROW - ROW, self.random.below(n * ROW), 0] {
+            let lent = self.noise(length);
+            self.read(&bytes, &lent);
+        }
+    }
+
+    fn writes(&mut self, table: &[i32], n: usize) {
+        let room = n.min(MAX_LINES) * 39;
+        let ((number, count), text) = self.write(table, n, room);
+        if number != 0 {
+            self.write(table, n, 0);
+            return;
+        }
+        let exact = count as usize;
+        for length in [0, exact.saturating_sub(1), exact, exact + 1, self.random.below(exact + 1)] {
+            self.write(table, n, length);
+        }
+        self.promise(Plain::NAME, written_reads_back::<Plain>(table, n));
+        self.promise(Xnc::NAME, written_reads_back::<Xnc>(table, n));
+        // What is written reads alike in both.
+        let lent = self.noise(n * ROW);
+        self.read(&text[..exact], &lent);
+    }
+
+    fn holes(&mut self, table: &[i32], n: usize, lines: Range<usize>) {
+        for line in lines {
+            let length = *self.random.pick(&[0, 6, 7, 7, 7, 7, 8, 15]);
+            self.hole(table, n, line, length);
+        }
+    }
+
+    /// Edits of a table that was read, with what demand 3 asks of them.
+    fn edits(&mut self, file: &File, table: &[i32], line: usize, times: usize) {
+        let n = file.lines.len();
+        let before = model_before(table, line);
+        for _ in 0..times {
+            let text = match self.random.below(6) {
+                0 => self.random.pick(&file.lines).clone(),
+                1 => {
+                    let mut text = file.lines[line - 1].clone();
+                    inputs::change_bytes(&mut text, &mut self.random);
+                    text
+                }
+                _ => inputs::text_for(&before, &mut self.random),
+            };
+            let spare = self.random.below(20);
+            let mut lent = table.to_vec();
+            lent.extend(self.noise(spare));
+            self.edit(&lent, n, line, &text);
+            if self.random.one_in(2) {
+                self.demand_3(file, line, &text);
+            }
+        }
+    }
+
+    /// Several edits, one on top of the other.
+    fn chain_of_edits(&mut self, table: &[i32], n: usize, times: usize) {
+        let mut table = table.to_vec();
+        for _ in 0..times {
+            let line = 1 + self.random.below(n);
+            let text = inputs::text_for(&model_before(&table, line), &mut self.random);
+            table = self.edit(&table, n, line, &text).1;
+        }
+        self.writes(&table, n);
+        self.holes(&table, n, 1..n + 1);
+    }
+
+    /// Counts of rows and line numbers that don't fit the table.
+    fn odd_sizes(&mut self, table: &[i32], rows: usize) {
+        let counts = [
+            0,
+            1,
+            rows - 1,
+            rows,
+            rows,
+            rows,
+            rows + 1,
+            MAX_LINES,
+            MAX_LINES + 1,
+            1 << 32,
+            (1 << 32) + rows,
+            usize::MAX / ROW,
+            usize::MAX / ROW + 1,
+            usize::MAX,
+        ];
+        let lines = [
+            0,
+            1,
+            rows,
+            rows + 1,
+            rows + 2,
+            MAX_LINES,
+            MAX_LINES + 1,
+            1 << 32,
+            (1 << 32) + 1,
+            1 << 63,
+            usize::MAX / ROW + 1,
+            usize::MAX - 1,
+            usize::MAX,
+        ];
+        let texts: [&[u8]; 8] = [b";", b"\n", b"\r", b"", b"T1\r\n", b"X1Y1\r", b"M30", b"\n\xff"];
+        for _ in 0..8 {
+            let n = *self.random.pick(&counts);
+            let line = *self.random.pick(&lines);
+            let text = *self.random.pick(&texts);
+            // Lent as it is, cut, or with more rows than any table has.
+            let length = match self.random.below(6) {
+                0..=2 => table.len(),
+                3 => table.len() - *self.random.pick(&[1, 14, 15, table.len()]),
+                _ => (MAX_LINES + 2) * ROW - self.random.below(32),
+            };
+            let mut lent = table.to_vec();
+            lent.resize(length, 0);
+            let lent = &lent;
+            self.edit(lent, n, line, text);
+            let length = *self.random.pick(&[0, 6, 7, 8]);
+            self.hole(lent, n, line, length);
+            let room = *self.random.pick(&[0, 10, rows * 39]);
+            self.write(lent, n, room);
+        }
+    }
+
+    /// Edits, queries and writings of a table with few numbers changed.
+    fn spoilt(&mut self, good: &[i32], n: usize) {
+        let mut table = good.to_vec();
+        let row = self.random.below(n);
+        for _ in 0..1 + self.random.below(2) {
+            let row = (row + self.random.below(3)).min(n - 1);
+            inputs::spoil_row(&mut table, row, &mut self.random);
+        }
+        self.edits_about(&table, n, row + 1);
+        self.writes(&table, n);
+    }
+
+    /// A good table cut short, or with rows changed places.
+    fn shifted(&mut self, good: &[i32], n: usize) {
+        let mut table = good.to_vec();
+        let (a, b) = (self.random.below(n), self.random.below(n));
+        match self.random.below(3) {
+            0 => {
+                for number in 0..ROW {
+                    table.swap(a * ROW + number, b * ROW + number);
+                }
+            }
+            1 => table.copy_within(a * ROW..(a + 1) * ROW, b * ROW),
+            _ => {}
+        }
+        let rows = match self.random.below(2) {
+            0 => n,
+            _ => 1 + self.random.below(n),
+        };
+        self.edits_about(&table, rows, b + 1);
+        self.edits_about(&table, rows, rows);
+        self.writes(&table, rows);
+    }
+
+    fn loose(&mut self) {
+        let n = 1 + self.random.below(12);
+        let table = inputs::loose_table(n, &mut self.random);
+        for line in 1..=n {
+            self.edits_about(&table, n, line);
+        }
+        self.writes(&table, n);
+    }
+
+    /// Edits and queries about one line of any table.
+    fn edits_about(&mut self, table: &[i32], n: usize, line: usize) {
+        let first = line.saturating_sub(2).max(1);
+        let last = (line + 2).min(n);
+        for at in first..=last {
+            let text = inputs::text_for(&model_before(table, at), &mut self.random);
+            self.edit(table, n, at, &text);
+        }
+        self.holes(table, n, first..last + 1);
+    }
+
+    /// One small file and all that is done with it.
+    fn round(&mut self) {
+        let lines = match self.random.below(40) {
+            0 => 300 + self.random.below(600),
+            1..=4 => 40 + self.random.below(100),
+            _ => 4 + self.random.below(30),
+        };
+        let file = inputs::valid_file(lines, &mut self.random);
+        if file.bytes().len() > MAX_FILE {
+            return;
+        }
+        let n = file.lines.len();
+        let table = self.read_valid(&file);
+        self.read_into_short_tables(&file);
+        self.read_damaged(&file, 100);
+        self.writes(&table, n);
+        if n <= 60 {
+            self.holes(&table, n, 0..n + 2);
+            for line in 1..=n {
+                self.edits(&file, &table, line, 4);
+            }
+        } else {
+            for _ in 0..20 {
+                let line = 1 + self.random.below(n);
+                self.edits(&file, &table, line, 1);
+                self.holes(&table, n, line..line + 1);
+            }
+        }
+        self.odd_sizes(&table, n);
+        self.chain_of_edits(&table, n, 12);
+        for _ in 0..6 {
+            self.spoilt(&table, n);
+            self.shifted(&table, n);
+            self.loose();
+        }
+        if self.random.one_in(20) {
+            self.large();
+        }
+    }
+
+    /// Files about the limits of lines and bytes.
+    fn large(&mut self) {
+        let count =
+            *self.random.pick(&[MAX_LINES - 1, MAX_LINES, MAX_LINES, MAX_LINES + 1, MAX_LINES + 1]);
+        let file = inputs::file_of_lines(count, &mut self.random);
+        if count <= MAX_LINES && file.bytes().len() <= MAX_FILE {
+            let table = self.read_valid(&file);
+            self.writes(&table, count);
+            for _ in 0..4 {
+                let line = *self.random.pick(&[1, 2, 3, 5, 8, count / 2, count - 1, count]);
+                self.edits(&file, &table, line, 1);
+                self.holes(&table, count, line..line + 2);
+            }
+            self.odd_sizes(&table, count);
+        }
+        self.read_damaged(&file, 4);
+        let lent = self.noise(MAX_LINES * ROW);
+        self.read(&file.bytes(), &lent);
+        let mut bytes = inputs::file_of_bytes(MAX_FILE - self.random.below(3));
+        inputs::change_bytes(&mut bytes, &mut self.random);
+        self.read(&bytes, &lent);
+    }
+
+    /// The limits themselves.
+    fn limits(&mut self) {
+        let lent = self.noise((MAX_LINES + 1) * ROW);
+        for bytes in [MAX_FILE - 1, MAX_FILE, MAX_FILE + 1, MAX_FILE + 1_000] {
+            let file = inputs::file_of_bytes(bytes);
+            assert_eq!(file.len(), bytes);
+            let (answer, _) = self.read(&file, &lent);
+            assert_eq!(answer.0, u32::from(bytes > MAX_FILE));
+            self.read(&file[..bytes - 1], &lent);
+        }
+        self.read(&vec![b'\n'; MAX_FILE + 1], &lent);
+        self.read(&vec![b'x'; MAX_FILE], &lent);
+        for lines in [MAX_LINES - 1, MAX_LINES, MAX_LINES + 1, MAX_LINES + 2] {
+            let mut file = inputs::file_of_lines(lines, &mut self.random);
+            while file.bytes().len() > MAX_FILE {
+                file = inputs::file_of_lines(lines, &mut self.random);
+            }
+            let mut bytes = file.bytes();
+            let (answer, _) = self.read(&bytes, &lent);
+            assert_eq!(answer.0, if lines > MAX_LINES { 2 } else { 0 });
+            for more in [&b"\n"[..], b";\n", b"M30\n", b"x", b"\0", b"\r"] {
+                bytes.extend_from_slice(more);
+                self.read(&bytes, &lent);
+                bytes.truncate(bytes.len() - more.len());
+            }
+            // The last line gone, or replaced by one that doesn't end the file.
+            self.read(&bytes[..bytes.len() - 4], &lent);
+            let length = bytes.len() - 4;
+            bytes.truncate(length);
+            bytes.extend_from_slice(b";\n");
+            self.read(&bytes, &lent);
+        }
+        for file in
+            [&b""[..], b"\n", b"\r", b"\r\n", b"M48", b"M48\n", b"M48\r", b"M48\r\r\n", b"\0", b";"]
+        {
+            self.read(file, &lent);
+            self.read(file, &[]);
+        }
+    }
+
+    /// The paper's own file: its edits a to l, then every text and every
+    /// number that a small set gives.
+    fn bench_file(&mut self) {
+        let file = file_of(
+            "M48\nMETRIC\nT01C0.5\nT07C1.25\n%\nG05\nT1\nX2Y-3.5\nT07\nG00X0Y0\nM15\nG01X4Y0\n\
+             G03X6Y2A2\nM16\nM30",
+        );
+        let table = self.read_valid(&file);
+        let cases: [(usize, &str, Answer); 12] = [
+            (3, "T01C0.6", (0, 3)),
+            (3, "T02C0.5", (10, 7)),
+            (2, "INCH", (0, 15)),
+            (6, ";", (12, 8)),
+            (8, "X2Y3", (0, 8)),
+            (9, ";", (0, 15)),
+            (12, "G01X4Y1", (0, 13)),
+            (13, "G03X8Y0A2", (0, 15)),
+            (13, "G03X8Y0A1.9", (13, 13)),
+            (15, ";", (14, 16)),
+            (11, "M30", (8, 12)),
+            (12, "G01X4Y0", (0, 12)),
+        ];
+        for (line, text, expected) in cases {
+            let (answer, _) = self.edit(&table, 15, line, text.as_bytes());
+            if answer != expected {
+                self.differs(&format!("edit {line} {text} of the bench file answered {answer:?}"));
+            }
+            self.demand_3(&file, line, text.as_bytes());
+        }
+        for line in 0..17 {
+            for length in [0, 6, 7, 8] {
+                self.hole(&table, 15, line, length);
+            }
+        }
+        self.writes(&table, 15);
+        for (line, text) in [(7, "T1\r"), (7, "T1\n"), (4, "T01C1"), (7, ";")] {
+            self.edit(&table, 15, line, text.as_bytes());
+        }
+        self.all_small_texts(&table);
+        self.all_edges(&table);
+        self.all_tools();
+    }
+
+    /// Every short text, and every short spelling of each number, as an edit.
+    fn all_small_texts(&mut self, table: &[i32]) {
+        for text in inputs::all_texts("019.-+XYTCM%; \r", 3) {
+            self.edit(table, 15, 8, text.as_bytes());
+        }
+        for number in inputs::all_texts("019.-+", 4) {
+            self.edit(table, 15, 3, format!("T01C{number}").as_bytes());
+            self.edit(table, 15, 3, format!("T{number}C1").as_bytes());
+            self.edit(table, 15, 7, format!("T{number}").as_bytes());
+            self.edit(table, 15, 8, format!("X{number}Y1").as_bytes());
+            self.edit(table, 15, 8, format!("X1Y{number}").as_bytes());
+            self.edit(table, 15, 13, format!("G02X5Y0A{number}").as_bytes());
+        }
+    }
+
+    /// Every number of every row at the edges of every field.
+    fn all_edges(&mut self, table: &[i32]) {
+        let mut table = table.to_vec();
+        for at in 0..table.len() {
+            let (line, number) = (at / ROW + 1, table[at]);
+            for edge in inputs::TABLE_EDGES {
+                table[at] = edge;
+                self.hole(&table, 15, line, 7);
+                self.edit(&table, 15, line, b";");
+                if at % ROW < 5 {
+                    self.write(&table, 15, 0);
+                }
+            }
+            table[at] = number;
+        }
+    }
+
+    /// Every tool, declared and selected beside every other of a few.
+    fn all_tools(&mut self) {
+        for tool in 1..=99 {
+            for other in [1, 24, 25, 49, 50, 75, 99] {
+                let file = format!(
+                    "M48\nINCH\nT{tool:02}C1\nT{other:02}C2\n%\nT{other}\nG05\nX0Y0\nM30\n"
+                );
+                let lent = self.noise(9 * ROW);
+                self.read(file.as_bytes(), &lent);
+            }
+        }
+    }
+
+    // -------------------------------------------------------------- report
+
+    /// Prints how often each number came up; whether each one did.
+    fn report(&self) -> bool {
+        let mut complete = true;
+        for (function, numbers) in CAN_GIVE.iter().enumerate() {
+            let mut line = format!("{:5}", NAMES[function]);
+            for &number in *numbers {
+                let times = self.came_up[function][number];
+                let _ = write!(line, "  {number}: {times}");
+                if times == 0 {
+                    complete = false;
+                    line.push_str(" (never)");
+                }
+            }
+            println!("{line}");
+        }
+        println!("holes found {}, promises checked {}", self.holes, self.promises);
+        complete
+    }
+}
+
+// ------------------------------------------------------------------- pairs
+
+/// Both answers to one call, and what was lent afterwards.
+struct Pair<T> {
+    expected: Answer,
+    found: Answer,
+    ours: Lent<T>,
+    theirs: Lent<T>,
+}
+
+fn call<T: Copy + PartialEq>(
+    before: &Lent<T>,
+    plain: impl Fn(&mut [T]) -> Answer,
+    xnc: impl Fn(&mut [T]) -> Answer,
+) -> Pair<T> {
+    let mut ours = before.clone();
+    let expected = plain(ours.slice());
+    let mut theirs = before.clone();
+    let found = xnc(theirs.slice());
+    Pair { expected, found, ours, theirs }
+}
+
+/// A file of these lines, each ended by LF.
+fn file_of(text: &str) -> File {
+    let lines: Vec<Vec<u8>> = text.split('\n').map(|line| line.as_bytes().to_vec()).collect();
+    let ends = vec![&b"\n"[..]; lines.len()];
+    File { lines, ends }
+}
+
+fn model_before(table: &[i32], line: usize) -> Model {
+    match line {
+        0 | 1 => Model::start(),
+        _ => Model::after_row(&table[(line - 2) * ROW..(line - 1) * ROW]),
+    }
+}
+
+fn rows(table: &[i32]) -> String {
+    let mut text = String::new();
+    for (row, line) in table.chunks(ROW).zip(1..) {
+        let _ = writeln!(text, "row {line}: {row:?}");
+    }
+    text
+}
+
+// ---------------------------------------------------------------- promises
+
+fn state(table: &[i32], line: usize) -> &[i32] {
+    &table[line * ROW - 10..line * ROW]
+}
+
+/// Demand 3: an edit answers and leaves what reading the edited file afresh
+/// would; its meeting line is the first where the states agree, or the last;
+/// no row outside the span changes.
+fn edit_is_reading<L: Library>(file: &File, line: usize, text: &[u8]) -> Result<(), String> {
+    let mut changed = file.clone();
+    changed.lines[line - 1] = text.to_vec();
+    let changed = changed.bytes();
+    if changed.len() > MAX_FILE {
+        return Ok(());
+    }
+    let n = file.lines.len();
+    let mut old = vec![-5; n * ROW + 3];
+    let first = L::read(&file.bytes(), &mut old);
+    let mut edited = old.clone();
+    let answer = L::edit(&mut edited, n, line, text);
+    let mut fresh = old.clone();
+    let reading = L::read(&changed, &mut fresh);
+
+    let say = |what: &str| {
+        Err(format!(
+            "{what}: edit answers {answer:?}, reading {reading:?}, line {line}, text \"{}\", file \"{}\"",
+            text.escape_ascii(),
+            file.bytes().escape_ascii()
+        ))
+    };
+    if first != (0, n as u32) {
+        return say("the file isn't read");
+    }
+    if text.contains(&b'\n') || text.contains(&b'\r') {
+        return if answer == (17, 0) && edited == old {
+            Ok(())
+        } else {
+            say("a line's end in the text")
+        };
+    }
+    if edited != fresh {
+        return say("the tables differ");
+    }
+    if answer.0 != 0 {
+        return if answer == reading && edited == old {
+            Ok(())
+        } else {
+            say("the refusals differ")
+        };
+    }
+    if reading != (0, n as u32) {
+        return say("the verdicts differ");
+    }
+    let agree = |at: &usize| state(&old, *at) == state(&edited, *at);
+    let meeting = (line..=n).find(agree).unwrap_or(n);
+    if answer.1 as usize != meeting {
+        return say("the meeting line is another");
+    }
+    let outside = edited[..(line - 1) * ROW] == old[..(line - 1) * ROW]
+        && edited[meeting * ROW..] == old[meeting * ROW..];
+    if outside {
+        Ok(())
+    } else {
+        say("rows outside the span changed")
+    }
+}
+
+/// Writing, then reading, gives the table without its comment rows.
+fn written_reads_back<L: Library>(table: &[i32], n: usize) -> Result<(), String> {
+    let mut text = vec![b'~'; n * 39];
+    let written = L::write(table, n, &mut text);
+    let length = written.1 as usize;
+    let say =
+        |what: &str| Err(format!("{what}: write answers {written:?}\n{}", rows(&table[..n * ROW])));
+    if written.0 != 0 || length > text.len() {
+        return say("a good table isn't written");
+    }
+    let kept: Vec<i32> =
+        table[..n * ROW].chunks(ROW).filter(|row| row[0] != 0).flatten().copied().collect();
+    let mut again = vec![-5; kept.len()];
+    let read = L::read(&text[..length], &mut again);
+    if read != (0, (kept.len() / ROW) as u32) || again != kept {
+        return say("the text reads otherwise");
+    }
+    let mut second = vec![b'~'; length];
+    let written_again = L::write(&again, kept.len() / ROW, &mut second);
+    if written_again != written || second != text[..length] {
+        return say("the text is written otherwise the second time");
+    }
+    Ok(())
+}
+
+// ---------------------------------------------------------------- programs
+
+fn compare(count: u64, seed: u64) -> ExitCode {
+    let mut comparison = Comparison::new(seed);
+    comparison.limits();
+    comparison.bench_file();
+    while comparison.compared < count {
+        comparison.round();
+    }
+    println!("{} against {}, seed {seed}", Xnc::NAME, Plain::NAME);
+    let complete = comparison.report();
+    println!("{} compared, {} different", comparison.compared, comparison.different);
+    if complete && comparison.different == 0 {
+        ExitCode::SUCCESS
+    } else {
+        ExitCode::FAILURE
+    }
+}
+
+/// What `program` prints when it is given `file`.
+fn printed(program: &[String], file: &[u8]) -> std::io::Result<Vec<u8>> {
+    let mut child = Command::new(&program[0])
+        .args(&program[1..])
+        .stdin(Stdio::piped())
+        .stdout(Stdio::piped())
+        .spawn()?;
+    if let Some(mut input) = child.stdin.take() {
+        // A program may refuse a file that is too long before its end.
+        let _ = input.write_all(file);
+    }
+    Ok(child.wait_with_output()?.stdout)
+}
+
+fn compare_print(count: u64, seed: u64, program: &[String]) -> std::io::Result<ExitCode> {
+    let mut random = Random::new(seed);
+    let mut different = 0;
+    for case in 0..count {
+        let file = match case {
+            0 => Vec::new(),
+            1..=3 => inputs::file_of_bytes(MAX_FILE + case as usize - 2),
+            4..=6 => inputs::file_of_lines(MAX_LINES + case as usize - 5, &mut random).bytes(),
+            7 => vec![b'\n'; 2 * MAX_FILE],
+            _ => {
+                let lines = 4 + random.below(60);
+                let file = inputs::valid_file(lines, &mut random);
+                match random.below(3) {
+                    0 => inputs::damaged(&file, &mut random),
+                    _ => file.bytes(),
+                }
+            }
+        };
+        let (expected, found) = (plain::print(&file), printed(program, &file)?);
+        if expected != found {
+            different += 1;
+            if different <= SHOWN {
+                println!(
+                    "DIFFERENT print: plain \"{}\", program \"{}\"\nfile \"{}\"\n",
+                    expected.escape_ascii(),
+                    found.escape_ascii(),
+                    file.escape_ascii()
+                );
+            }
+        }
+    }
+    println!("{count} compared, {different} different");
+    Ok(if different == 0 { ExitCode::SUCCESS } else { ExitCode::FAILURE })
+}
+
+fn main() -> ExitCode {
+    let arguments: Vec<String> = std::env::args().skip(1).collect();
+    let number = |at: usize, otherwise: u64| match arguments.get(at) {
+        Some(text) => text.parse().ok(),
+        None => Some(otherwise),
+    };
+    if arguments.first().map(String::as_str) == Some("print") {
+        if let (Some(count), Some(seed), true) = (number(1, 0), number(2, 0), arguments.len() > 3) {
+            return match compare_print(count, seed, &arguments[3..]) {
+                Ok(code) => code,
+                Err(error) => {
+                    eprintln!("{}: {error}", arguments[3]);
+                    ExitCode::FAILURE
+                }
+            };
+        }
+    } else if let (Some(count), Some(seed), true) =
+        (number(0, COUNT), number(1, SEED), arguments.len() < 3)
+    {
+        return compare(count, seed);
+    }
+    eprintln!(
+        "usage: compare [COUNT [SEED]]\n       compare print COUNT SEED PROGRAM [ARGUMENT ...]"
+    );
+    ExitCode::FAILURE
+}

@@ -1,0 +1,27 @@
+-- By the answer's case.
+use Rattle.xnc.specs.Door.{packed}
+use borrow.Author.Needs.{needs}
+use Rattle.xnc.proofs.pack.Statement.{statement}
+use Rattle.xnc.proofs.pack.Tie as tie
+
+enum-known-answer : tie.Need-enum-known-answer
+enum-known-answer c = search needs
+
+enum-known-answer-2 : tie.Need-enum-known-answer-2
+enum-known-answer-2 c = search needs
+
+pack-refusal-requires : tie.Need-pack-refusal-requires
+pack-refusal-requires c κs = search needs
+
+returns : tie.Need-returns
+unfolding packed
+returns c = rw (c .before .answer .given .1)
+
+returns-2 : tie.Need-returns-2
+unfolding packed
+returns-2 c = rw (c .before .before .answer2 .given .1) (c .pack-refusal .ensures)
+
+pub pack-spec : {M : Type 1} → statement M
+pack-spec =
+    tie.close
+    (tie.spec enum-known-answer enum-known-answer-2 pack-refusal-requires returns returns-2)

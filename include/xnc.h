@@ -1,0 +1,38 @@
+/* Phaxelunu: XNC drill files read into, edited in and written from a table that the caller lends.
+ *
+ * A table has fifteen numbers for each line: kind, tool, x, y, diameter or radius, and the state after the line (phase, unit,
+ * motion, selected tool, point x and y, four words of the declared tools). Lengths count numbers or bytes. Blocks may have any
+ * length, and may be empty; a pointer is not used where its length is 0, but must not be null.
+ *
+ * Each function answers (number << 32) + value: number 0 is success and value the count, any other number is a refusal of document 01
+ * and value its line. A refused call changes nothing that was lent. */
+#ifndef XNC_H
+#define XNC_H
+
+#include <stddef.h>
+#include <stdint.h>
+
+#ifdef __cplusplus
+extern "C" {
+#endif
+
+/* Reads a file: the count is its number of lines n, and the first 15 n numbers of the table are its rows. */
+uint64_t xnc_read(const uint8_t *file, size_t file_len, int32_t *table, size_t table_len);
+
+/* Line `line` (from 1) of a table of n rows gets new bytes, without a line end. The count is the meeting line: the first, from the edited
+ * one on, after which old and new states agree, or n. Only rows from the edited line to it change. */
+uint64_t xnc_edit(int32_t *table, size_t table_len, size_t n, size_t line, const uint8_t *text, size_t text_len);
+
+/* The hole of a line. The count is 1, with seven numbers put into `hole` (kind, tool, start x, start y, end x, end y, radius), or 0 where the
+ * line makes none, with `hole` unchanged. A `hole` block under seven numbers is refused 15 at line 0, after all other refusals. */
+uint64_t xnc_hole(const int32_t *table, size_t table_len, size_t n, size_t line, int32_t *hole, size_t hole_len);
+
+/* Writes a good table as XNC: the count is the number of bytes. Comments are dropped. Whole numbers are written without a point; some older
+ * programs that guess an implied decimal point misread such numbers. */
+uint64_t xnc_write(const int32_t *table, size_t table_len, size_t n, uint8_t *text, size_t text_len);
+
+#ifdef __cplusplus
+}
+#endif
+
+#endif

@@ -1,0 +1,119 @@
+//! Safe Rust functions over the library `xnc`.
+//!
+//! Each function lends slices to the library and hands back an [`Answer`]:
+//! number 0 with a count on success, else the refusal's number and line, with
+//! everything lent left as it was.
+//!
+//! ```no_run
+//! let file = b"M48\nMETRIC\nT01C0.5\n%\nG05\nT1\nX2Y-3.5\nM30\n";
+//! let mut table = [0; 15 * 8];
+//! let rows = xnc::read(file, &mut table).result()? as usize;
+//! let mut hole = [0; 7];
+//! if xnc::hole(&table, rows, 7, &mut hole).result()? == 1 {
+//!     println!("tool {} at {}, {}", hole[1], hole[2], hole[3]);
+//! }
+//! # Ok::<(), xnc::Refusal>(())
+//! ```
+
+use std::fmt;
+
+mod raw {
+    extern "C" {
+        pub fn xnc_read(file: *const u8, file_len: usize, table: *mut i32, table_len: usize)
+            -> u64;
+        pub fn xnc_edit(
+            table: *mut i32,
+            table_len: usize,
+            n: usize,
+            line: usize,
+            text: *const u8,
+            text_len: usize,
+        ) -> u64;
+        pub fn xnc_hole(
+            table: *const i32,
+            table_len: usize,
+            n: usize,
+            line: usize,
+            hole: *mut i32,
+            hole_len: usize,
+        ) -> u64;
+        pub fn xnc_write(
+            table: *const i32,
+            table_len: usize,
+            n: usize,
+            text: *mut u8,
+            text_len: usize,
+        ) -> u64;
+    }
+}
+
+/// What a function answers: number 0 and a count, or a refusal's number and
+/// line.
+#[derive(Clone, Copy, Debug, PartialEq, Eq)]
+pub struct Answer {
+    pub number: u32,
+    pub value: u32,
+}
+
+/// A refusal's number and line.
+#[derive(Clone, Copy, Debug, PartialEq, Eq)]
+pub struct Refusal {
+    pub number: u32,
+    pub line: u32,
+}
+
+impl Answer {
+    fn unpack(answer: u64) -> Answer {
+        Answer { number: (answer >> 32) as u32, value: answer as u32 }
+    }
+
+    /// The count, or the refusal.
+    pub fn result(self) -> Result<u32, Refusal> {
+        match self.number {
+            0 => Ok(self.value),
+            number => Err(Refusal { number, line: self.value }),
+        }
+    }
+}
+
+impl fmt::Display for Refusal {
+    fn fmt(&self, f: &mut fmt::Formatter<'_>) -> fmt::Result {
+        write!(f, "refused {} at {}", self.number, self.line)
+    }
+}
+
+impl std::error::Error for Refusal {}
+
+// In each function below the pointers and lengths are those of live slices;
+// the ones lent for writing are borrowed mutably, so no two of them overlap.
+// The library keeps no pointer.
+
+/// Reads `file` into `table`, fifteen numbers a line. Counts the lines.
+pub fn read(file: &[u8], table: &mut [i32]) -> Answer {
+    Answer::unpack(unsafe {
+        raw::xnc_read(file.as_ptr(), file.len(), table.as_mut_ptr(), table.len())
+    })
+}
+
+/// Puts `text` in the place of line `line` (from 1) of the table's `n` rows.
+/// Counts the meeting line: the rows from `line` to it may have changed.
+pub fn edit(table: &mut [i32], n: usize, line: usize, text: &[u8]) -> Answer {
+    Answer::unpack(unsafe {
+        raw::xnc_edit(table.as_mut_ptr(), table.len(), n, line, text.as_ptr(), text.len())
+    })
+}
+
+/// Asks for the hole that line `line` makes. Counts 1 with kind, tool, start
+/// x, start y, end x, end y and radius put into `hole`, or 0 for none.
+pub fn hole(table: &[i32], n: usize, line: usize, hole: &mut [i32]) -> Answer {
+    Answer::unpack(unsafe {
+        raw::xnc_hole(table.as_ptr(), table.len(), n, line, hole.as_mut_ptr(), hole.len())
+    })
+}
+
+/// Writes the table's `n` rows as text, comments left out. Counts the bytes.
+pub fn write(table: &[i32], n: usize, text: &mut [u8]) -> Answer {
+    Answer::unpack(unsafe {
+        raw::xnc_write(table.as_ptr(), table.len(), n, text.as_mut_ptr(), text.len())
+    })
+}
