@@ -31,6 +31,14 @@ holeValue (H.Makes h) = 1
 holeValue H.Nothing = 0
 holeValue (H.Refused e i) = i
 
+abbrev pub diameterNumber : DiameterAnswer → ℕ
+diameterNumber (Is d) = 0
+diameterNumber (Refused e i) = e .number
+
+abbrev pub diameterValue : DiameterAnswer → ℕ
+diameterValue (Is d) = d
+diameterValue (Refused e i) = i
+
 -- the hole of line k: the row before is tested, if there is one, then the row itself
 abbrev pub onRow {ℓ} : {A : Type ℓ} → Entry Command State → A → (M.Row Command State → A) → A
 onRow bad z f = z

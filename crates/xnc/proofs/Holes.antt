@@ -39,7 +39,7 @@ use Rattle.query.specs.declared.Before.{Before}
 use Rattle.query.specs.declared.Before.the-variants.{From, Bad}
 use Rattle.query.specs.Parts.{beforeAt, onBefore}
 use Rattle.query.proofs.Tests.{entry-is, from-before}
-use Rattle.xnc.specs.Door.{packedRefusal, holeWidth, HoleOk, holeNumbers, holePacked, holeLeaves}
+use Rattle.xnc.specs.Door.{packedRefusal, holeWidth, HoleOk, holeNumbers, inBlock, holePacked, holeLeaves}
 
 -- ---- seven numbers
 
@@ -138,23 +138,23 @@ made-ok t n k h e f = subst Ranged (sym e ∙ f) (answer-ok t n k)
 
 module _ {a x : HoleAnswer} (e : a ≡ x) (b : List ℤ) where
   pub door-refused : {r : ℕ} (f : Refusal) (i : ℕ) → a ≡ H.Refused f i → r ≡ packedRefusal f i → (r ≡ holePacked x b) × (b ≡ holeLeaves x b)
-  unfolding holePacked holeLeaves
+  unfolding holePacked holeLeaves inBlock
   door-refused f i w q = (q ∙ rw (sym e ∙ w), rw (sym e ∙ w))
 
   module _ (w : a ≡ H.Nothing) where
     pub door-none-short : {r : ℕ} → length b < holeWidth → r ≡ packedRefusal noRoom 0 → (r ≡ holePacked x b) × (b ≡ holeLeaves x b)
-    unfolding holePacked holeLeaves
-    door-none-short h q = (q ∙ rw (sym e ∙ w, lt-leb holeWidth (length b) h), rw (sym e ∙ w))
+    unfolding holePacked holeLeaves inBlock
+    door-none-short h q = (q ∙ rw (sym e ∙ w, lt-leb holeWidth (length b) h), rw (sym e ∙ w, lt-leb holeWidth (length b) h))
 
     pub door-none : holeWidth ≤ length b → (0 ≡ holePacked x b) × (b ≡ holeLeaves x b)
-    unfolding holePacked holeLeaves
-    door-none h = (rw (sym e ∙ w, le-leb holeWidth (length b) h), rw (sym e ∙ w))
+    unfolding holePacked holeLeaves inBlock
+    door-none h = (rw (sym e ∙ w, le-leb holeWidth (length b) h), rw (sym e ∙ w, le-leb holeWidth (length b) h))
 
   module _ (m : Hole) (w : a ≡ H.Makes m) where
     pub door-short : {r : ℕ} → length b < holeWidth → r ≡ packedRefusal noRoom 0 → (r ≡ holePacked x b) × (b ≡ holeLeaves x b)
-    unfolding holePacked holeLeaves
+    unfolding holePacked holeLeaves inBlock
     door-short h q = (q ∙ rw (sym e ∙ w, lt-leb holeWidth (length b) h), rw (sym e ∙ w, lt-leb holeWidth (length b) h))
 
     pub door-makes : holeWidth ≤ length b → (b′ : List ℤ) → b′ ≡ putAt b 0 (holeNumbers m) → (1 ≡ holePacked x b) × (b′ ≡ holeLeaves x b)
-    unfolding holePacked holeLeaves
+    unfolding holePacked holeLeaves inBlock
     door-makes h b′ q = (rw (sym e ∙ w, le-leb holeWidth (length b) h), q ∙ rw (sym e ∙ w, le-leb holeWidth (length b) h))

@@ -11,19 +11,23 @@ use Rattle.rules.specs.declared.Hole.{Hole}
 use Rattle.rules.specs.declared.HoleAnswer.{HoleAnswer}
 use Rattle.rules.specs.declared.HoleAnswer.the-variants as H
 use Rattle.rules.specs.Refusals.{noRoom}
+use Rattle.rules.specs.Reading.{numberOf, valueOf}
+use Rattle.rules.specs.Asking.{holeNumber, holeValue}
 use Rattle.rules.specs.declared.Refusal.{Refusal}
 use Rattle.rules.specs.declared.Answer.{Answer}
-use Rattle.rules.specs.declared.Answer.the-variants.{Done, Refused}
 
 abbrev pub shift : ℕ
 shift = 4294967296
 
+-- a number of document 01, and the value beside it
+abbrev pub both : ℕ → ℕ → ℕ
+both number value = number * shift + value % shift
+
 abbrev pub packedRefusal : Refusal → ℕ → ℕ
-packedRefusal e i = e .number * shift + i % shift
+packedRefusal e i = both (e .number) i
 
 unfoldable pub packed : Answer → ℕ
-packed (Done n) = n % shift
-packed (Refused e i) = packedRefusal e i
+packed a = both (numberOf a) (valueOf a)
 
 -- ---- a hole as seven numbers
 
@@ -39,13 +43,20 @@ pub record HoleOk (h : Hole) : Type 0 where
   pub tool-range : h .tool ≤ 2147483647
   pub radius-range : h .radius ≤ 2147483647
 
--- 1 where there is a hole, 0 where there is none; a short block is 15 at line 0, after all other refusals
+-- a short block is 15 at line 0, after all other refusals
+unfoldable pub inBlock : HoleAnswer → List ℤ → HoleAnswer
+inBlock (H.Makes h) b = pick (leb holeWidth (length b)) (H.Makes h) (H.Refused noRoom 0)
+inBlock H.Nothing b = pick (leb holeWidth (length b)) H.Nothing (H.Refused noRoom 0)
+inBlock (H.Refused e i) b = H.Refused e i
+
+-- 1 where there is a hole, 0 where there is none
 unfoldable pub holePacked : HoleAnswer → List ℤ → ℕ
-holePacked (H.Makes h) b = pick (leb holeWidth (length b)) 1 (packedRefusal noRoom 0)
-holePacked H.Nothing b = pick (leb holeWidth (length b)) 0 (packedRefusal noRoom 0)
-holePacked (H.Refused e i) b = packedRefusal e i
+holePacked a b = both (holeNumber (inBlock a b)) (holeValue (inBlock a b))
+
+abbrev pub leftOf : HoleAnswer → List ℤ → List ℤ
+leftOf (H.Makes h) b = putAt b 0 (holeNumbers h)
+leftOf H.Nothing b = b
+leftOf (H.Refused e i) b = b
 
 unfoldable pub holeLeaves : HoleAnswer → List ℤ → List ℤ
-holeLeaves (H.Makes h) b = pick (leb holeWidth (length b)) (putAt b 0 (holeNumbers h)) b
-holeLeaves H.Nothing b = b
-holeLeaves (H.Refused e i) b = b
+holeLeaves a b = leftOf (inBlock a b) b

@@ -1,4 +1,6 @@
 -- By the answer's case.
+use mathlib.Core.Path.{sym}
+use native.Mathlib.Nat.{zero-add}
 use Rattle.xnc.specs.Door.{packed}
 use borrow.Author.Needs.{needs}
 use Rattle.xnc.proofs.pack.Statement.{statement}
@@ -15,7 +17,7 @@ pack-refusal-requires c κs = search needs
 
 returns : tie.Need-returns
 unfolding packed
-returns c = rw (c .before .answer .given .1)
+returns c = rw (c .before .answer .given .1) (sym (zero-add _))
 
 returns-2 : tie.Need-returns-2
 unfolding packed
