@@ -2,9 +2,9 @@
 use mathlib.Core.Path.{_≡_, refl}
 use mathlib.Core.Bool.{Bool, true, false}
 use mathlib.Core.List.{List}
-use Prim.Native.Nat.{ℕ, _*_, _/_, _≤_}
+use Prim.Native.Nat.{ℕ, _*_, _/_, _<_, _≤_}
 use native.Mathlib.Omega.{arith}
-use borrow.Author.Tests.{le-leb, leb-true}
+use borrow.Author.Tests.{le-leb, lt-leb, leb-true}
 use lib.Dec.{leb}
 use lib.IntN.{ℤ}
 use lib.ListN.{length}
@@ -21,7 +21,9 @@ use Rattle.rules.specs.Lines.{linesOf}
 use Rattle.rules.specs.State.{start, taken, hasEnded}
 use Rattle.rules.specs.Rows.{rowWidth, tableNumbers}
 use Rattle.rules.specs.Reading.{commandIn, Rows, runOf, fileOf, hasRoom, inRoom, readAnswer, readLeaves}
-use Rattle.demands.proofs.InRange.{reads-few}
+use Rattle.rules.proofs.Keeps.{start-ok}
+use Rattle.table.proofs.Entries.{RowsOk}
+use Rattle.demands.proofs.InRange.{reads-few, reads-ok}
 
 -- ---- a file's rows
 
@@ -45,6 +47,9 @@ pub file-few : (bs : List ℕ) (rs : Rows) → fileOf bs ≡ accepted rs → len
 file-few bs rs h =
     let r = file-accepts bs rs h .reads in
     omega (arith, reads-length commandIn taken r, reads-few r (omega arith))
+
+pub file-ok : (bs : List ℕ) (rs : Rows) → fileOf bs ≡ accepted rs → RowsOk rs
+file-ok bs rs h = reads-ok (file-accepts bs rs h .reads) start-ok
 
 -- ---- an accepted reading
 
@@ -84,6 +89,11 @@ module _ (bs : List ℕ) (t : List ℤ) (rs : Rows) (e : fileOf bs ≡ accepted 
   pub read-writes : readLeaves bs t ≡ putAt t 0 (tableNumbers rs)
   unfolding readLeaves
   read-writes = rw (e, room-is t (length rs) h)
+
+-- accepted rows for which there is none
+pub read-short : (bs : List ℕ) (t : List ℤ) (rs : Rows) → fileOf bs ≡ accepted rs → length t < rowWidth * length rs → readAnswer bs t ≡ Refused noRoom 0
+unfolding readAnswer hasRoom
+read-short bs t rs e h = rw (e, lt-leb (length rs) (length t / 15) (omega arith))
 
 -- a refused file
 pub read-refuses : (bs : List ℕ) (t : List ℤ) (e : Refusal) (i : ℕ) → fileOf bs ≡ refused e i → (readAnswer bs t ≡ Refused e i) × (readLeaves bs t ≡ t)

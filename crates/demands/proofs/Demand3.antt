@@ -18,18 +18,13 @@ use Rattle.rules.specs.Numbers.{maxFile}
 use Rattle.rules.specs.Rows.{tableNumbers}
 use Rattle.rules.specs.Reading.{Rows, fileOf, readAnswer, readLeaves}
 use Rattle.rules.specs.Editing.{noLineEnd, editRows, editAnswer, editLeaves}
-use Rattle.rules.proofs.Keeps.{start-ok}
-use Rattle.table.proofs.Entries.{RowsOk, table-length}
+use Rattle.table.proofs.Entries.{table-length}
 use Rattle.demands.specs.EditedFile.{LineOf, edited}
 use Rattle.demands.specs.Demand3.{SameVerdict, SpanIs, AsReadAfresh}
-use Rattle.demands.proofs.InRange.{reads-ok}
-use Rattle.demands.proofs.AcceptedFile.{read-done, file-run, file-of, file-accepts, file-few, read-accepts, read-writes, read-refuses}
+use Rattle.demands.proofs.AcceptedFile.{read-done, file-run, file-of, file-few, file-ok, read-accepts, read-writes, read-refuses}
 use Rattle.demands.proofs.EditRows.{edit-agreement}
 use Rattle.demands.proofs.EditIsReading.{withSpan, edit-is-reading, line-from, line-upto}
 use Rattle.demands.proofs.EditTable.{table-again, edit-refuses, edit-accepts, edit-writes, new-length, same-outside}
-
-pub file-ok : (bs : List ℕ) (rs : Rows) → fileOf bs ≡ accepted rs → RowsOk rs
-file-ok bs rs h = reads-ok (file-accepts bs rs h .reads) start-ok
 
 -- the table of an accepted file, whatever stands after its rows
 module _ {bs : List ℕ} {k : ℕ} (w : LineOf bs k) (rs : Rows) (read : fileOf bs ≡ accepted rs) (l : List ℕ) (hl : noLineEnd l ≡ true)

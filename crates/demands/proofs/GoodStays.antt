@@ -1,61 +1,30 @@
 -- An accepted edit of a good table leaves a good table: its new rows follow, with the old ones around them, they end as
 -- the rules ask, and each is in range, so it is found whole.
-use mathlib.Core.Path.{_≡_, refl, sym, ap, _∙_, subst, subst₂}
-use mathlib.Core.Bool.{Bool, true, false}
+use mathlib.Core.Path.{_≡_, sym, ap, _∙_, subst₂}
+use mathlib.Core.Bool.{true}
 use mathlib.Core.List.{List, _∷_, _++_}
 use Prim.Native.Nat.{ℕ, _+_, _-_, _*_, _≤_}
 use native.Mathlib.Omega.{arith}
 use lib.IntN.{ℤ}
-use lib.ListN.{length, take, drop, length-append}
-use Rattle.lists.specs.Choice.{pick}
+use lib.ListN.{length, take, drop}
 use Rattle.lists.specs.Put.{putAt}
-use Rattle.runs.specs.Machine.{Verdict, accepted, refused, onVerdict, Row, allHold, Span, lastOf, Follows}
+use Rattle.runs.specs.Machine.{accepted, Row, allHold, Span, lastOf, Follows}
 use Rattle.rules.specs.declared.Command.{Command}
 use Rattle.rules.specs.declared.State.{State}
-use Rattle.rules.specs.declared.Refusal.{Refusal}
-use Rattle.rules.specs.declared.Answer.the-variants.{Done, Refused}
-use Rattle.rules.specs.Refusals.{badTable, noSuchLine, holdsLineEnd}
+use Rattle.rules.specs.declared.Answer.the-variants.{Done}
 use Rattle.rules.specs.Numbers.{maxLines}
 use Rattle.rules.specs.State.{start, taken, hasEnded}
-use Rattle.rules.specs.Rows.{tableNumbers, entriesOf, sizesFit, Good}
+use Rattle.rules.specs.Rows.{tableNumbers, Good}
 use Rattle.rules.specs.Reading.{Rows}
-use Rattle.rules.specs.Editing.{isLine, noLineEnd, editRows, editOf, editAnswer, editLeaves}
+use Rattle.rules.specs.Editing.{noLineEnd, editRows, editAnswer, editLeaves}
 use Rattle.rules.proofs.Keeps.{start-ok}
-use Rattle.table.proofs.Entries.{RowsOk, table-length, entries-table, table-whole}
+use Rattle.table.proofs.Entries.{RowsOk}
 use Rattle.demands.specs.GoodTable.{GoodTable}
 use Rattle.demands.proofs.InRange.{rows-append, rows-first, rows-rest, rows-take, rows-drop, last-ok, line-ok, redone-ok}
+use Rattle.demands.proofs.EditSpan.{edit-tests, edit-done}
 use Rattle.demands.proofs.EditRows.{around-line, edit-made, edit-follows}
-use Rattle.demands.proofs.EditTable.{line-says, sizes-fit, sizes-say, edit-writes, new-length}
-
--- ---- an accepted edit's tests
-
-pub record EditDone (t : List ℤ) (n k : ℕ) (l : List ℕ) (m : ℕ) : Type 0 where
-  pub span : Span Command State
-  pub line : isLine n k ≡ true
-  pub no-end : noLineEnd l ≡ true
-  pub made : editRows (entriesOf n t) k l ≡ accepted span
-  pub meets : span .meeting ≡ m
-
--- a test before a verdict that was accepted
-accepted-by : (b : Bool) (v : Verdict (Span Command State) Refusal) (e : Refusal) (s : Span Command State)
-    → pick b v (refused e 0) ≡ accepted s → (b ≡ true) × (v ≡ accepted s)
-accepted-by true v e s h = (refl, h)
-accepted-by false v e s h = absurd (let z : _≡_ {A = ℕ} 0 1 = cc in omega arith)
-
-module _ (t : List ℤ) (n k : ℕ) (l : List ℕ) (m : ℕ) where
-  done-span : (v : Verdict (Span Command State) Refusal) → editOf t n k l ≡ v → onVerdict v Refused (λ s. Done (s .meeting)) ≡ Done m → EditDone t n k l m
-  unfolding editOf
-  done-span (accepted s) e h =
-      let a = accepted-by (sizesFit t n) _ badTable s e in
-      let b = accepted-by (isLine n k) _ noSuchLine s (a .1) in
-      let c = accepted-by (noLineEnd l) _ holdsLineEnd s (b .1) in
-      let d : s .meeting ≡ m = cc in
-      record { span = s; line = b .0; no-end = c .0; made = c .1; meets = d }
-  done-span (refused e i) w h = absurd (let z : _≡_ {A = ℕ} 0 1 = cc in omega arith)
-
-  pub edit-done : editAnswer t n k l ≡ Done m → EditDone t n k l m
-  unfolding editAnswer
-  edit-done h = done-span (editOf t n k l) refl h
+use Rattle.demands.proofs.EditTable.{line-says, edit-writes, new-length}
+use Rattle.demands.proofs.GoodTables.{rows-table, good-whole}
 
 -- ---- the new rows are in range
 
@@ -86,25 +55,19 @@ module _ (rs : Rows) (rest : List ℤ) (ok : RowsOk rs) (few : length rs ≤ max
       let new : Rows = putAt rs (k - 1) (s .rows) in
       let n : length new ≡ length rs = new-length rs rest ok few k a b l hl s h in
       let g = edit-follows rs k a b l s h follows ends in
-      subst (λ (u : List ℤ). Good u (length rs) new)
-      (sym (edit-writes rs rest ok few k a b l hl s h))
-      (record {
-        fits = sizes-fit (tableNumbers new ++ rest) (length rs)
-            (record { some = omega arith; few = few; room = omega (arith, n, table-length new, length-append (tableNumbers new) rest) });
-        found = rw n at (entries-table new rest (edit-ok rs k a b l s ok h));
-        follows = g .follows;
-        ends = g .ends;
-      })
+      subst₂ (λ (u : List ℤ) (j : ℕ). Good u j new)
+      (sym (edit-writes rs rest ok few k a b l hl s h)) n
+      (rows-table new rest (edit-ok rs k a b l s ok h) (omega (arith, n)) (g .follows) (g .ends))
 
 pub good-stays : (t : List ℤ) (n : ℕ) (rs : Rows) → Good t n rs → (k : ℕ) (l : List ℕ) (m : ℕ) → editAnswer t n k l ≡ Done m → GoodTable (editLeaves t n k l) n
 good-stays t n rs g k l m h =
     let d = edit-done t n k l m h in
-    let z = sizes-say t n (g .fits) in
-    let w = table-whole n t rs (g .found) (z .room) in
-    let p = line-says n k (d .line) in
-    let made : editRows (allHold rs) k l ≡ accepted (d .span) = sym (ap (λ (es : _). editRows es k l) (g .found)) ∙ d .made in
+    let e = edit-tests t n k l (d .span) (d .verdict) in
+    let w = good-whole t n rs g in
+    let p = line-says n k (e .line) in
+    let made : editRows (allHold rs) k l ≡ accepted (d .span) = sym (ap (λ (es : _). editRows es k l) (g .found)) ∙ e .made in
     record {
       rows = putAt rs (k - 1) (d .span .rows);
-      good = subst₂ (λ (u : List ℤ) (j : ℕ). Good (editLeaves u j k l) j (putAt rs (k - 1) (d .span .rows))) (sym (w .0)) (w .2)
-          (left-good rs (drop (15 * n) t) (w .1) (omega (arith, w .2, z .few)) (g .follows) (g .ends) k (p .0) (omega (arith, w .2, p .1)) l (d .no-end) (d .span) made);
+      good = subst₂ (λ (u : List ℤ) (j : ℕ). Good (editLeaves u j k l) j (putAt rs (k - 1) (d .span .rows))) (sym (w .numbers)) (w .count)
+          (left-good rs (drop (15 * n) t) (w .ok) (w .rows .count) (g .follows) (g .ends) k (p .0) (omega (arith, w .count, p .1)) l (e .no-end) (d .span) made);
     }

@@ -1,3 +1,6 @@
+pub mod Ways
+pub mod WhichRefusals
+pub mod EditSpan
 pub mod EditedLines
 pub mod InRange
 pub mod EditRows
@@ -5,6 +8,15 @@ pub mod EditIsReading
 pub mod SameHoles
 pub mod EditTable
 pub mod AcceptedFile
+pub mod WrittenTable
+pub mod GoodTables
+pub mod LeftAlone
+pub mod Demand1
+pub mod Demand2
 pub mod Demand3
 pub mod GoodStays
 pub mod EveryLine
+pub mod WriteBack
+pub mod WalkStops
+pub mod WriteRefused
+pub mod GoodExactly

@@ -9,7 +9,6 @@ use Rattle.runs.specs.Machine.{Row, allHold, lastOf}
 use Rattle.runs.specs.Agreement.{stateAfter}
 use Rattle.runs.proofs.Edit.{after-add}
 use Rattle.rules.specs.declared.Command.{Command}
-use Rattle.rules.specs.declared.Command.the-variants.{Comment}
 use Rattle.rules.specs.declared.State.{State}
 use Rattle.rules.specs.declared.HoleAnswer.{HoleAnswer}
 use Rattle.rules.specs.declared.HoleAnswer.the-variants as H
@@ -19,11 +18,8 @@ use Rattle.rules.specs.Reading.{Rows}
 use Rattle.rules.specs.Editing.{entryAt}
 use Rattle.rules.specs.Holes.{holeOf}
 use Rattle.rules.specs.Asking.{onRow, holeIn}
+use Rattle.demands.specs.Demand2.{noRow}
 use Rattle.demands.proofs.EditRows.{from-before, entry-here, around-line}
-
--- a row, for where there is none
-abbrev noRow : Row Command State
-noRow = record { command = Comment; state = start }
 
 -- the hole of a line, from the state before it and its row
 abbrev holeFrom : State → Row Command State → HoleAnswer

@@ -58,8 +58,8 @@ fn find_meeting(table: &[i32], n: usize, from: usize, before: State) -> Answer
                         return Answer::Refused(refusal, i + 1);
                     }
                     Next::To(next) => {
-                        let old = row.state;
-                        if next.same(old) {
+                        let stands = row.state;
+                        if next.same(stands) {
                             return Answer::Done(i + 1);
                         }
                         state = next;
@@ -94,7 +94,7 @@ fn write_span(table: &mut [i32], n: usize, from: usize, before: State)
                         return;
                     }
                     Next::To(next) => {
-                        let old = row.state;
+                        let stood = row.state;
                         table::put(
                             table,
                             i,
@@ -103,7 +103,7 @@ fn write_span(table: &mut [i32], n: usize, from: usize, before: State)
                                 state: next,
                             },
                         );
-                        if next.same(old) {
+                        if next.same(stood) {
                             return;
                         }
                         state = next;

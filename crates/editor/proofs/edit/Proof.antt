@@ -1,5 +1,6 @@
 -- Each test that fails is a refusal; past them all the line takes its new command.
 use mathlib.Core.Path.{sym, _∙_}
+use native.Mathlib.Omega.{arith}
 use borrow.Author.Tests.{not-false}
 use Rattle.query.proofs.Tests.{line-says}
 use Rattle.editor.proofs.Whole.{whole-sizes, whole-line, whole-end, whole-before, whole-old, whole-text, whole-may, whole-done}
@@ -35,7 +36,7 @@ returns-3 : tie.Need-returns-3
 returns-3 c = whole-end (c .before .before .before .before .before .before .before .before .args .table .now) (c .before .before .before .before .before .before .before .before .args .n) (c .before .before .before .before .before .before .before .before .args .line) (c .before .before .before .before .before .before .before .before .args .text .now) (c .before .before .before .before .before .sizes-fit .ensures) (c .before .before .before .before .if1 .left) (c .before .before .before .is-line .ensures) (c .before .before .if2 .left) (c .before .no-line-end .ensures) (c .if3 .taken)
 
 sub-state-before : tie.Need-sub-state-before
-sub-state-before c = line-says _ _ (sym (c .before .before .before .before .is-line .ensures) ∙ not-false _ (c .before .before .before .if2 .left)) .0
+sub-state-before c = omega (arith, line-says _ _ (sym (c .before .before .before .before .is-line .ensures) ∙ not-false _ (c .before .before .before .if2 .left)) .0)
 
 state-before-requires : tie.Need-state-before-requires
 state-before-requires c κs = search needs
@@ -44,7 +45,7 @@ enum-told : tie.Need-enum-told
 enum-told c = search needs
 
 sub-t23 : tie.Need-sub-t23
-sub-t23 c = line-says _ _ (sym (c .before .before .before .before .before .before .before .is-line .ensures) ∙ not-false _ (c .before .before .before .before .before .before .if2 .left)) .0
+sub-t23 c = omega (arith, line-says _ _ (sym (c .before .before .before .before .before .before .before .is-line .ensures) ∙ not-false _ (c .before .before .before .before .before .before .if2 .left)) .0)
 
 same-length-4 : tie.Need-same-length-4
 same-length-4 c = search needs
@@ -56,7 +57,7 @@ enum-known-before : tie.Need-enum-known-before
 enum-known-before c = search needs
 
 sub-look : tie.Need-sub-look
-sub-look c = line-says _ _ (sym (c .before .before .before .before .before .before .before .before .before .is-line .ensures) ∙ not-false _ (c .before .before .before .before .before .before .before .before .if2 .left)) .0
+sub-look c = omega (arith, line-says _ _ (sym (c .before .before .before .before .before .before .before .before .before .is-line .ensures) ∙ not-false _ (c .before .before .before .before .before .before .before .before .if2 .left)) .0)
 
 look-requires : tie.Need-look-requires
 look-requires c κs = search needs

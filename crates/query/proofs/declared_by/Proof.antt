@@ -1,3 +1,4 @@
+-- A declaration of this tool, of another one, or no declaration: each way out is one law.
 use Rattle.query.proofs.Holes.{declared-this, declared-not, declared-other}
 use borrow.Author.Needs.{needs}
 use Rattle.query.proofs.declared_by.Statement.{statement}

@@ -1,3 +1,4 @@
+-- The sizes, then the tool's range, both sides of it; past them the rows tell.
 use mathlib.Core.Path.{sym, _∙_}
 use borrow.Author.Tests.{not-false}
 use Rattle.query.proofs.Tests.{sizes-say}

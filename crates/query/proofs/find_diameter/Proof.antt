@@ -1,3 +1,4 @@
+-- Rows up to i are good and declare other tools: the rest tells what the whole tells. The measure is the rows left.
 use mathlib.Core.Path.{_≡_, refl, sym, _∙_}
 use Prim.Native.Nat.{_-_}
 use native.Mathlib.Omega.{arith}

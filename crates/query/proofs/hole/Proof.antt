@@ -1,3 +1,4 @@
+-- Each test that fails is a refusal; past them all the two rows looked at make the hole.
 use mathlib.Core.Path.{sym, _∙_}
 use borrow.Author.Tests.{not-false}
 use Rattle.query.proofs.Tests.{line-says}

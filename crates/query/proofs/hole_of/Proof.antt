@@ -1,3 +1,4 @@
+-- An arm for each command that makes a hole; the last takes the kinds that make none.
 use Rattle.rules.specs.Holes.{holeOf}
 use Rattle.query.proofs.Holes.{no-hole}
 use borrow.Author.Needs.{needs}

@@ -1,3 +1,4 @@
+-- The code's two tests are the definition's, one after the other.
 use Rattle.query.proofs.Tests.{line-zero, line-rest}
 use Rattle.query.proofs.is_line.Statement.{statement}
 use Rattle.query.proofs.is_line.Tie as tie

@@ -1,3 +1,4 @@
+-- The code's three tests are the definition's, one after the other.
 use Rattle.query.proofs.Tests.{fit-none, fit-many, fit-rest}
 use Rattle.query.proofs.sizes_fit.Statement.{statement}
 use Rattle.query.proofs.sizes_fit.Tie as tie

@@ -1,3 +1,4 @@
+-- The first row starts all zero; for any other, what looking at the row before tells is what is answered.
 use mathlib.Core.Path.{sym, ap, _∙_}
 use Rattle.query.specs.Parts.{stateOf}
 use Rattle.query.proofs.Tests.{before-first, before-row}

@@ -1,0 +1,97 @@
+-- Demand 2, reading. A file is accepted exactly where it obeys and refused exactly where it is faulty (crate obeys); what
+-- is left here is the room, and that rows written into numbers are found there again.
+use mathlib.Core.Path.{_≡_, refl, sym, ap, _∙_, subst₂}
+use mathlib.Core.Bool.{Bool, true, false, false≢true}
+use mathlib.Core.List.{List}
+use Prim.Native.Nat.{ℕ, _+_, _*_, _/_, _≤_}
+use native.Mathlib.Omega.{arith}
+use borrow.Author.Tests.{leb-false}
+use lib.Dec.{eqb}
+use lib.IntN.{ℤ}
+use lib.ListN.{length, drop}
+use Rattle.lists.specs.Choice.{pick}
+use Rattle.lists.specs.Put.{putAt}
+use Rattle.runs.specs.Machine.{stops, Verdict, accepted, refused, onVerdict}
+use Rattle.rules.specs.declared.Refusal.{Refusal}
+use Rattle.rules.specs.declared.Answer.the-variants.{Done, Refused}
+use Rattle.rules.specs.Refusals.{noRoom}
+use Rattle.rules.specs.Rows.{rowWidth, tableNumbers, Good}
+use Rattle.rules.specs.Reading.{Rows, fileOf, hasRoom, inRoom, readAnswer, readLeaves}
+use Rattle.rules.specs.Obeys.{ReadingOf, Obeys}
+use Rattle.rules.specs.Holes.{holeOf}
+use Rattle.rules.specs.Asking.{holeAnswer}
+use Rattle.obeys.specs.Faults.{Faulty}
+use Rattle.obeys.proofs.Split.{line-in-file}
+use Rattle.obeys.proofs.Files.{file-iff, one-reading, refused-says}
+use Rattle.demands.specs.Demand2.{rowOf, stateBefore, HoldsReading, ReadRefused, faulty, short, ReadsRight, Demand2}
+use Rattle.demands.proofs.WhichRefusals.{faulty-of}
+use Rattle.demands.proofs.EditTable.{line-is}
+use Rattle.demands.proofs.SameHoles.{hole-at}
+use Rattle.demands.proofs.AcceptedFile.{file-few, read-done, read-accepts, read-writes, read-short, read-refuses}
+use Rattle.demands.proofs.GoodTables.{file-table}
+
+-- the hole of line k in a good table
+good-hole : (t : List ℤ) (n : ℕ) (rs : Rows) → Good t n rs → n ≡ length rs → (k : ℕ) → 1 ≤ k → k ≤ n
+    → holeAnswer t n k ≡ holeOf (stateBefore rs k .at) (rowOf rs k .command) (rowOf rs k .state)
+unfolding holeAnswer
+good-hole t n rs g c k a b = rw (g .fits, line-is n k a b, g .found) (hole-at rs k a (omega arith))
+
+module _ (bs : List ℕ) (t : List ℤ) where
+  read-of : (n : ℕ) → readAnswer bs t ≡ Done n → Obeys bs
+  read-of n h = let d = read-done bs t n h in record { rows = d .rows; reading = file-iff bs (d .rows) .0 (d .read) }
+
+  holds : (n : ℕ) (rs : Rows) → readAnswer bs t ≡ Done n → ReadingOf bs rs → HoldsReading bs t n rs
+  holds n rs h w =
+      let d = read-done bs t n h in
+      let e : fileOf bs ≡ accepted rs = file-iff bs rs .1 w in
+      let same : d .rows ≡ rs = one-reading (file-iff bs (d .rows) .0 (d .read)) w in
+      let c : length rs ≡ n = sym (ap length same) ∙ d .counted in
+      let left : readLeaves bs t ≡ putAt t 0 (tableNumbers rs) = read-writes bs t rs e (omega (arith, c, d .counted, d .room)) in
+      let g : Good (readLeaves bs t) n rs = subst₂ (λ (u : List ℤ) (j : ℕ). Good u j rs) (sym left) c (file-table bs rs e (drop (0 + length (tableNumbers rs)) t)) in
+      record { count = sym c; numbers = left; entries = g .found; good = g; holes = good-hole (readLeaves bs t) n rs g (sym c) }
+
+  -- ---- refusals
+
+  short-room : (rs : Rows) → fileOf bs ≡ accepted rs → (e : Refusal) (i : ℕ) (b : Bool) → hasRoom t (length rs) ≡ b
+      → pick b (Done (length rs)) (Refused noRoom 0) ≡ Refused e i → ReadRefused bs t e i
+  unfolding hasRoom
+  short-room rs w e i true f h = absurd (let z : _≡_ {A = ℕ} 0 1 = cc in omega arith)
+  short-room rs w e i false f h =
+      let p : noRoom ≡ e = cc in
+      let q : 0 ≡ i = cc in
+      subst₂ (ReadRefused bs t) p q (short (file-iff bs rs .0 w) (omega (arith, leb-false (length rs) (length t / 15) f)))
+
+  why : (e : Refusal) (i : ℕ) (v : Verdict Rows Refusal) → fileOf bs ≡ v → onVerdict v Refused (inRoom t) ≡ Refused e i → ReadRefused bs t e i
+  why e i (accepted rs) w h = short-room rs w e i (hasRoom t (length rs)) refl h
+  why e i (refused a j) w h =
+      let p : a ≡ e = cc in
+      let q : j ≡ i = cc in
+      faulty (subst₂ (Faulty bs) p q (refused-says bs a j .0 w))
+
+  so-refused : {e : Refusal} {i : ℕ} → ReadRefused bs t e i → readAnswer bs t ≡ Refused e i
+  so-refused (faulty {e = e} {i = i} f) = read-refuses bs t e i (refused-says bs e i .1 f) .0
+  so-refused (short {rs = rs} w h) = read-short bs t rs (file-iff bs rs .1 w) h
+
+  no-fault : (i : ℕ) → Faulty bs noRoom i → ⊥
+  no-fault i f =
+      false≢true (sym (faulty-of (λ e. eqb (e .number) 15 ≡ false)
+      (record { phase = refl; motion = refl; again = refl; undeclared = refl; unselected = refl; arc = refl })
+      (record { long = refl; byte = refl; form = refl; range = refl }) refl refl refl refl f))
+
+  accepts : (rs : Rows) → ReadingOf bs rs → rowWidth * length rs ≤ length t → readAnswer bs t ≡ Done (length rs)
+  accepts rs w h = read-accepts bs t rs (file-iff bs rs .1 w) h
+
+  reads-right : ReadsRight bs t
+  unfolding readAnswer
+  reads-right = record {
+    obeys = read-of;
+    accepted = accepts;
+    accepted-all = λ h w. accepts (w .rows) (w .reading) (omega (arith, file-few bs (w .rows) (file-iff bs (w .rows) .1 (w .reading))));
+    one-reading = λ rs ss v w. one-reading v w;
+    holds = holds;
+    refused = λ e i. (λ h. why e i (fileOf bs) refl h, so-refused);
+    no-room-last = no-fault;
+  }
+
+pub demand-2 : Demand2
+demand-2 = record { reads = reads-right; first-fault = λ i l e. line-in-file i l (stops e) }

@@ -1,0 +1,45 @@
+-- A table is good exactly when some accepted file reads to it: a good table's rows, each written as a line, comments too,
+-- are such a file, and what a file reads to follows and ends as its lines do.
+use mathlib.Core.Path.{_≡_, sym, ap, _∙_, subst, subst₂}
+use mathlib.Core.List.{List, _++_}
+use Prim.Native.Nat.{ℕ, _+_, _*_, _≤_}
+use native.Mathlib.Omega.{arith}
+use lib.IntN.{ℤ}
+use lib.ListN.{length, drop}
+use Rattle.rules.specs.declared.Answer.the-variants.{Done}
+use Rattle.rules.specs.Rows.{tableNumbers, Good}
+use Rattle.rules.specs.Reading.{Rows, readAnswer, readLeaves}
+use Rattle.table.proofs.Entries.{table-length}
+use Rattle.round.specs.Comments.{textWithComments}
+use Rattle.round.proofs.Files.{commented-file-back}
+use Rattle.demands.specs.GoodTable.{GoodTable}
+use Rattle.demands.specs.GoodExactly.{ReadTo}
+use Rattle.demands.proofs.AcceptedFile.{read-done, read-accepts, read-writes}
+use Rattle.demands.proofs.GoodTables.{file-table, good-whole}
+
+module _ (t : List ℤ) (n : ℕ) (rs : Rows) (g : Good t n rs) where
+  -- the file of a good table, read into the table itself, changes nothing
+  pub good-read : (readAnswer (textWithComments rs) t ≡ Done n) × (readLeaves (textWithComments rs) t ≡ t)
+  good-read =
+      let w = good-whole t n rs g in
+      let f = commented-file-back rs (w .rows) in
+      let room : 15 * length rs ≤ length t = omega (arith, w .count, w .room) in
+      let m : 0 + length (tableNumbers rs) ≡ 15 * n = omega (arith, table-length rs, w .count) in (
+        read-accepts (textWithComments rs) t rs f room ∙ ap Done (w .count),
+        read-writes (textWithComments rs) t rs f room ∙ ap (λ (j : ℕ). tableNumbers rs ++ drop j t) m ∙ sym (w .numbers),
+      )
+
+pub read-good : (bs : List ℕ) (t : List ℤ) (n : ℕ) → readAnswer bs t ≡ Done n → GoodTable (readLeaves bs t) n
+read-good bs t n h =
+    let d = read-done bs t n h in
+    record {
+      rows = d .rows;
+      good = subst₂ (λ (u : List ℤ) (j : ℕ). Good u j (d .rows)) (sym (read-writes bs t (d .rows) (d .read) (d .room))) (d .counted)
+          (file-table bs (d .rows) (d .read) (drop (0 + length (tableNumbers (d .rows))) t));
+    }
+
+pub good-exactly : (t : List ℤ) (n : ℕ) → (GoodTable t n → ReadTo t n) × (ReadTo t n → GoodTable t n)
+good-exactly t n = (
+  λ w. let r = good-read t n (w .rows) (w .good) in record { file = textWithComments (w .rows); lent = t; answer = r .0; table = r .1 },
+  λ w. subst (λ (u : List ℤ). GoodTable u n) (w .table) (read-good (w .file) (w .lent) n (w .answer)),
+)

@@ -1,0 +1,199 @@
+-- What reading, editing and writing leave of what is lent. An answer and what it leaves come from one verdict: on a refusal
+-- nothing is put anywhere, on success a list is put in one place, inside what is lent, and that leaves the rest.
+use mathlib.Core.Path.{_≡_, refl, ap, _∙_, subst}
+use mathlib.Core.Bool.{Bool, true, false}
+use mathlib.Core.List.{List}
+use Prim.Native.Nat.{ℕ, _+_, _-_, _*_, _≤_}
+use native.Mathlib.Omega.{arith}
+use borrow.Author.Tests.{leb-true}
+use lib.Dec.{leb}
+use lib.IntN.{ℤ}
+use lib.ListN.{length, take, drop}
+use Rattle.lists.specs.Choice.{pick}
+use Rattle.lists.specs.Put.{putAt}
+use Rattle.lists.proofs.Choice.{pick-all}
+use Rattle.lists.proofs.Put.{put-length, put-before, put-after}
+use Rattle.runs.specs.Machine.{Verdict, accepted, refused, onVerdict, Span}
+use Rattle.rules.specs.declared.Command.{Command}
+use Rattle.rules.specs.declared.State.{State}
+use Rattle.rules.specs.declared.Refusal.{Refusal}
+use Rattle.rules.specs.declared.Answer.the-variants.{Done, Refused}
+use Rattle.rules.specs.Refusals.{noRoom}
+use Rattle.rules.specs.Rows.{rowWidth, tableNumbers, entriesOf, sizesFit}
+use Rattle.rules.specs.Reading.{Rows, fileOf, hasRoom, inRoom, withRows, readAnswer, readLeaves}
+use Rattle.rules.specs.Editing.{isLine, noLineEnd, editOf, editAnswer, editLeaves}
+use Rattle.rules.specs.Writing.{textOfRows, rowsOf, inBlock, withText, writeAnswer, writeLeaves}
+use Rattle.obeys.proofs.Files.{refused-says}
+use Rattle.table.proofs.Entries.{table-length, entries-length}
+use Rattle.demands.specs.Demand1.{among, readRefusals, editRefusals, writeRefusals, ReadLeavesRest, EditLeavesRest, WriteLeavesRest}
+use Rattle.demands.proofs.WhichRefusals.{Refuses, faulty-of, edit-refuses-of, rows-refuses}
+use Rattle.demands.proofs.EditSpan.{SpanOf, edit-spans, edit-tests, edit-done}
+use Rattle.demands.proofs.EditTable.{sizes-say, line-says}
+use Rattle.demands.proofs.AcceptedFile.{read-done, read-writes, file-few}
+use Rattle.demands.proofs.WrittenTable.{write-done, write-writes}
+
+-- ---- reading
+
+-- a refusal that reading gives
+InRead : Refusal → Type 0
+InRead e = among readRefusals (e .number) ≡ true
+
+file-refusals : (bs : List ℕ) (e : Refusal) (i : ℕ) → fileOf bs ≡ refused e i → InRead e
+unfolding InRead
+file-refusals bs e i h =
+    faulty-of InRead (record { phase = refl; motion = refl; again = refl; undeclared = refl; unselected = refl; arc = refl })
+    (record { long = refl; byte = refl; form = refl; range = refl }) refl refl refl refl (refused-says bs e i .0 h)
+
+module _ (bs : List ℕ) (t : List ℤ) where
+  no-room : (rs : Rows) (e : Refusal) (i : ℕ) (b : Bool) → pick b (Done (length rs)) (Refused noRoom 0) ≡ Refused e i
+      → (pick b (putAt t 0 (tableNumbers rs)) t ≡ t) × InRead e
+  unfolding InRead
+  no-room rs e i true h = absurd (let z : _≡_ {A = ℕ} 0 1 = cc in omega arith)
+  no-room rs e i false h = let d : noRoom ≡ e = cc in (refl, subst InRead d refl)
+
+  not-read : (e : Refusal) (i : ℕ) (v : Verdict Rows Refusal) → fileOf bs ≡ v → onVerdict v Refused (inRoom t) ≡ Refused e i
+      → (onVerdict v (λ e i. t) (withRows t) ≡ t) × InRead e
+  not-read e i (accepted rs) w h = no-room rs e i (hasRoom t (length rs)) h
+  not-read e i (refused a j) w h = let d : a ≡ e = cc in (refl, subst InRead d (file-refusals bs a j w))
+
+  read-beyond : (n : ℕ) → readAnswer bs t ≡ Done n → drop (rowWidth * n) (readLeaves bs t) ≡ drop (rowWidth * n) t
+  read-beyond n h =
+      let d = read-done bs t n h in
+      ap (drop (rowWidth * n)) (read-writes bs t (d .rows) (d .read) (d .room))
+      ∙ put-after t 0 (rowWidth * n) (tableNumbers (d .rows)) (omega (arith, table-length (d .rows), d .counted)) (omega (arith, d .room, d .counted))
+
+  room-kept : (rs : Rows) (b : Bool) → hasRoom t (length rs) ≡ b → length (pick b (putAt t 0 (tableNumbers rs)) t) ≡ length t
+  unfolding hasRoom
+  room-kept rs true h = put-length t 0 (tableNumbers rs) (omega (arith, table-length rs, leb-true (length rs) _ h))
+  room-kept rs false h = refl
+
+  read-length : (v : Verdict Rows Refusal) → length (onVerdict v (λ e i. t) (withRows t)) ≡ length t
+  read-length (accepted rs) = room-kept rs (hasRoom t (length rs)) refl
+  read-length (refused e i) = refl
+
+  pub read-rest : ReadLeavesRest bs t
+  unfolding readAnswer readLeaves InRead
+  read-rest = record {
+    refused = λ e i h. not-read e i (fileOf bs) refl h;
+    inside = λ n h. let d = read-done bs t n h in (omega (arith, file-few bs (d .rows) (d .read), d .counted), omega (arith, d .room, d .counted));
+    beyond = read-beyond;
+    as-many = read-length (fileOf bs);
+  }
+
+-- ---- editing
+
+InEdit : Refusal → Type 0
+InEdit e = among editRefusals (e .number) ≡ true
+
+module _ (t : List ℤ) (n k : ℕ) (l : List ℕ) where
+  edit-refusals : Refuses InEdit (editOf t n k l)
+  unfolding editOf InEdit
+  edit-refusals =
+      pick-all (Refuses InEdit) (sizesFit t n)
+      (λ _. pick-all (Refuses InEdit) (isLine n k)
+      (λ _. pick-all (Refuses InEdit) (noLineEnd l)
+      (λ _. edit-refuses-of InEdit (record { phase = refl; motion = refl; again = refl; undeclared = refl; unselected = refl; arc = refl })
+      (record { long = refl; byte = refl; form = refl; range = refl }) refl refl (entriesOf n t) k l)
+      (λ _. refl)) (λ _. refl)) (λ _. refl)
+
+  not-edited : (e : Refusal) (i : ℕ) (v : Verdict (Span Command State) Refusal) → Refuses InEdit v → onVerdict v Refused (λ s. Done (s .meeting)) ≡ Refused e i
+      → (onVerdict v (λ e i. t) (λ s. putAt t (rowWidth * (k - 1)) (tableNumbers (s .rows))) ≡ t) × InEdit e
+  not-edited e i (accepted s) w h = absurd (let z : _≡_ {A = ℕ} 0 1 = cc in omega arith)
+  not-edited e i (refused a j) w h = let d : a ≡ e = cc in (refl, subst InEdit d w)
+
+  module _ (s : Span Command State) (h : editOf t n k l ≡ accepted s) where
+    -- the span's rows stand inside
+    record Inside : Type 0 where
+      first : 1 ≤ k
+      span : SpanOf n k s
+      room : rowWidth * n ≤ length t
+      end : rowWidth * (k - 1) + length (tableNumbers (s .rows)) ≡ rowWidth * (s .meeting)
+
+    inside : Inside
+    inside =
+        let d = edit-tests t n k l s h in
+        let p = line-says n k (d .line) in
+        let c = entries-length n t in
+        let z = subst (λ (j : ℕ). SpanOf j k s) c (edit-spans (entriesOf n t) k (p .0) (omega arith) l s (d .made)) in
+        record { first = p .0; span = z; room = sizes-say t n (d .sizes) .room; end = omega (arith, table-length (s .rows), z .counted) }
+
+    edit-left : editLeaves t n k l ≡ putAt t (rowWidth * (k - 1)) (tableNumbers (s .rows))
+    unfolding editLeaves
+    edit-left = rw h
+
+    edit-before : take (rowWidth * (k - 1)) (editLeaves t n k l) ≡ take (rowWidth * (k - 1)) t
+    edit-before =
+        let c = inside in
+        ap (take (rowWidth * (k - 1))) edit-left ∙ put-before t (rowWidth * (k - 1)) (tableNumbers (s .rows)) (omega (arith, c .span .upto, c .room))
+
+    edit-after : drop (rowWidth * (s .meeting)) (editLeaves t n k l) ≡ drop (rowWidth * (s .meeting)) t
+    edit-after =
+        let c = inside in
+        ap (drop (rowWidth * (s .meeting))) edit-left
+        ∙ put-after t (rowWidth * (k - 1)) (rowWidth * (s .meeting)) (tableNumbers (s .rows)) (omega (arith, c .end)) (omega (arith, c .span .counted, c .span .upto, c .room))
+
+    edit-kept : length (putAt t (rowWidth * (k - 1)) (tableNumbers (s .rows))) ≡ length t
+    edit-kept =
+        let c = inside in
+        put-length t (rowWidth * (k - 1)) (tableNumbers (s .rows)) (omega (arith, c .end, c .span .counted, c .span .upto, c .room))
+
+  edit-length : (v : Verdict (Span Command State) Refusal) → editOf t n k l ≡ v
+      → length (onVerdict v (λ e i. t) (λ s. putAt t (rowWidth * (k - 1)) (tableNumbers (s .rows)))) ≡ length t
+  edit-length (accepted s) h = edit-kept s h
+  edit-length (refused e i) h = refl
+
+  pub edit-rest : EditLeavesRest t n k l
+  unfolding editAnswer editLeaves InEdit
+  edit-rest = record {
+    refused = λ e i h. not-edited e i (editOf t n k l) edit-refusals h;
+    inside = λ m h.
+        let d = edit-done t n k l m h in
+        let c = inside (d .span) (d .verdict) in
+        (c .first, omega (arith, c .span .counted, c .span .some, d .meets), omega (arith, c .span .counted, c .span .upto, d .meets), c .room);
+    before = λ m h. let d = edit-done t n k l m h in edit-before (d .span) (d .verdict);
+    after = λ m h. let d = edit-done t n k l m h in
+        subst (λ (j : ℕ). drop (rowWidth * j) (editLeaves t n k l) ≡ drop (rowWidth * j) t) (d .meets) (edit-after (d .span) (d .verdict));
+    as-many = edit-length (editOf t n k l) refl;
+  }
+
+-- ---- writing
+
+InWrite : Refusal → Type 0
+InWrite e = among writeRefusals (e .number) ≡ true
+
+module _ (t : List ℤ) (n : ℕ) (b : List ℕ) where
+  write-refusals : Refuses InWrite (rowsOf t n)
+  unfolding InWrite
+  write-refusals = rows-refuses InWrite refl t n
+
+  no-block : (x : List ℕ) (e : Refusal) (i : ℕ) (c : Bool) → pick c (Done (length x)) (Refused noRoom 0) ≡ Refused e i → (pick c (putAt b 0 x) b ≡ b) × InWrite e
+  unfolding InWrite
+  no-block x e i true h = absurd (let z : _≡_ {A = ℕ} 0 1 = cc in omega arith)
+  no-block x e i false h = let d : noRoom ≡ e = cc in (refl, subst InWrite d refl)
+
+  not-written : (e : Refusal) (i : ℕ) (v : Verdict Rows Refusal) → Refuses InWrite v → onVerdict v Refused (λ rs. inBlock b (textOfRows rs)) ≡ Refused e i
+      → (onVerdict v (λ e i. b) (λ rs. withText b (textOfRows rs)) ≡ b) × InWrite e
+  not-written e i (accepted rs) w h = no-block (textOfRows rs) e i (leb (length (textOfRows rs)) (length b)) h
+  not-written e i (refused a j) w h = let d : a ≡ e = cc in (refl, subst InWrite d w)
+
+  write-beyond : (m : ℕ) → writeAnswer t n b ≡ Done m → drop m (writeLeaves t n b) ≡ drop m b
+  write-beyond m h =
+      let d = write-done t n b m h in
+      ap (drop m) (write-writes t n b (d .rows) (d .verdict) (d .room)) ∙ put-after b 0 m (textOfRows (d .rows)) (omega (arith, d .counted)) (omega (arith, d .counted, d .room))
+
+  block-kept : (x : List ℕ) (c : Bool) → leb (length x) (length b) ≡ c → length (pick c (putAt b 0 x) b) ≡ length b
+  block-kept x true h = put-length b 0 x (omega (arith, leb-true (length x) (length b) h))
+  block-kept x false h = refl
+
+  write-length : (v : Verdict Rows Refusal) → length (onVerdict v (λ e i. b) (λ rs. withText b (textOfRows rs))) ≡ length b
+  write-length (accepted rs) = block-kept (textOfRows rs) (leb (length (textOfRows rs)) (length b)) refl
+  write-length (refused e i) = refl
+
+  pub write-rest : WriteLeavesRest t n b
+  unfolding writeAnswer writeLeaves InWrite
+  write-rest = record {
+    refused = λ e i h. not-written e i (rowsOf t n) write-refusals h;
+    inside = λ m h. let d = write-done t n b m h in omega (arith, d .counted, d .room);
+    beyond = write-beyond;
+    as-many = write-length (rowsOf t n);
+  }

@@ -1,0 +1,1 @@
+// That each promise allows one answer, function by function. No code.
