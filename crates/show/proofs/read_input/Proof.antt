@@ -7,10 +7,10 @@ use Rattle.show.proofs.read_input.Statement.{statement}
 use Rattle.show.proofs.read_input.Tie as tie
 
 abbrev Inv-loop : tie.InvT-loop
-Inv-loop block₀ got₀ t5 block got = (got ≤ length block) × (length block ≡ length block₀)
+Inv-loop block₀ got₀ block got = (got ≤ length block) × (length block ≡ length block₀)
 
 abbrev μ-loop : tie.MeasureT-loop
-μ-loop block₀ got₀ t5 block got = length block - got
+μ-loop block₀ got₀ block got = length block - got
 
 loop-holds : tie.Need-loop-holds Inv-loop μ-loop
 loop-holds c = search needs
@@ -27,11 +27,8 @@ part-read-end c = search needs
 read-requires : tie.Need-read-requires Inv-loop μ-loop
 read-requires c κs = search needs
 
-slice-aggregate-write-all : tie.Need-slice-aggregate-write-all Inv-loop μ-loop
-slice-aggregate-write-all c = search needs
-
-write-all-requires : tie.Need-write-all-requires Inv-loop μ-loop
-write-all-requires c κs = search needs
+cannot-read-requires : tie.Need-cannot-read-requires Inv-loop μ-loop
+cannot-read-requires c κs = search needs
 
 same-length : tie.Need-same-length Inv-loop μ-loop
 same-length c = search needs
@@ -83,8 +80,7 @@ read-input-spec =
     part-read-start
     part-read-end
     read-requires
-    slice-aggregate-write-all
-    write-all-requires
+    cannot-read-requires
     same-length
     returns
     sub-count

@@ -1,0 +1,257 @@
+// Prints what else on the board moves when one line of an XNC file changes. Standard input has the line's number, a tab and the
+// new text on its first line; the file follows. Holes and tools that differ go to standard output.
+ghost use mathlib.Core.Path.{_≡_};
+ghost use Prim.Native.Nat.{_≤_};
+ghost use Rattle.moves.specs.Moves as Moves;
+use rules::Answer;
+use rules::DiameterAnswer;
+use rules::FILE_TOO_LONG;
+use rules::Hole;
+use rules::HoleAnswer;
+use rules::MAX_TOOL;
+use rules::NO_SUCH_LINE;
+use show::Input;
+use show::InputLine;
+
+fn same_hole(a: Hole, b: Hole) -> bool
+    ensures { λ r. ⌜ r ≡ Moves.sameHole a b ⌝ }
+{
+    if a.kind != b.kind {
+        return false;
+    }
+    if a.tool != b.tool {
+        return false;
+    }
+    if a.radius != b.radius {
+        return false;
+    }
+    let start = a.start;
+    let other_start = b.start;
+    if start.same(other_start) {
+        let end = a.end;
+        let other_end = b.end;
+        return end.same(other_end);
+    }
+    false
+}
+
+// Whether a line's hole moved, came or went.
+fn differs(old: HoleAnswer, new: HoleAnswer) -> bool
+    ensures { λ r. ⌜ r ≡ Moves.differ old new ⌝ }
+{
+    match old {
+        HoleAnswer::Makes(a) => match new {
+            HoleAnswer::Makes(b) => !same_hole(a, b),
+            _ => true,
+        },
+        _ => match new {
+            HoleAnswer::Makes(_) => true,
+            _ => false,
+        },
+    }
+}
+
+fn print_span(line: usize, meeting: usize) {
+    show::word(b"span");
+    show::tab();
+    show::number(line as u64);
+    show::tab();
+    show::number(meeting as u64);
+    show::line_end();
+}
+
+// A line's hole, if it makes one, behind the sign of the table it is in.
+fn print_hole(sign: &[u8], line: usize, answer: HoleAnswer) {
+    if let HoleAnswer::Makes(hole) = answer {
+        show::word(sign);
+        show::tab();
+        show::number(line as u64);
+        show::hole(hole);
+        show::line_end();
+    }
+}
+
+// The old and the new hole of a line where they differ, and whether they do.
+fn print_move(old: &[i32], new: &[i32], n: usize, line: usize) -> bool {
+    let before = query::hole(old, n, line);
+    let after = query::hole(new, n, line);
+    if differs(before, after) {
+        print_hole(b"-", line, before);
+        print_hole(b"+", line, after);
+        return true;
+    }
+    false
+}
+
+// The holes that differ from a line to the meeting line, and how many lines have one.
+fn print_moves(old: &[i32], new: &[i32], n: usize, line: usize, meeting: usize) -> usize
+    requires { ⌜ 1 ≤ line ⌝ }
+{
+    let mut count: usize = 0;
+    let mut passed = line - 1;
+    while passed < meeting {
+        passed += 1;
+        if print_move(old, new, n, passed) {
+            count += 1;
+        }
+    }
+    count
+}
+
+// A tool's diameter, 0 where it isn't declared.
+fn diameter(table: &[i32], n: usize, tool: u32) -> u32 {
+    match query::diameter(table, n, tool) {
+        DiameterAnswer::Is(diameter) => diameter,
+        DiameterAnswer::Refused(_, _) => 0,
+    }
+}
+
+fn print_tool(old: &[i32], new: &[i32], n: usize, tool: u32) {
+    let before = diameter(old, n, tool);
+    let after = diameter(new, n, tool);
+    if before != after {
+        show::word(b"tool");
+        show::tab();
+        show::number(tool as u64);
+        show::tab();
+        show::number(before as u64);
+        show::tab();
+        show::number(after as u64);
+        show::line_end();
+    }
+}
+
+// The tools whose diameter differs, by number.
+fn print_tools(old: &[i32], new: &[i32], n: usize) {
+    let mut tool = 1;
+    while tool <= MAX_TOOL {
+        print_tool(old, new, n, tool);
+        tool += 1;
+    }
+}
+
+fn print_count(count: usize) {
+    show::word(b"moved");
+    show::tab();
+    show::number(count as u64);
+    show::line_end();
+}
+
+fn copy(to: &mut [i32], from: &[i32]) {
+    let mut i = 0;
+    while i < to.len() {
+        if i == from.len() {
+            return;
+        }
+        to[i] = from[i];
+        i += 1;
+    }
+}
+
+// The edit goes into a copy, so that both tables can be asked.
+fn try_edit(old: &[i32], n: usize, line: usize, text: &[u8])
+    requires { ⌜ 1 ≤ line ⌝ }
+{
+    let mut new = [0i32; 15000];
+    copy(&mut new, old);
+    match editor::edit(&mut new, n, line, text) {
+        Answer::Refused(refusal, at) => show::refused(refusal, at),
+        Answer::Done(meeting) => {
+            print_span(line, meeting);
+            let count = print_moves(old, &new, n, line, meeting);
+            print_tools(old, &new, n);
+            print_count(count);
+        }
+    }
+}
+
+// Where the first tab is, or the end.
+fn find_tab(first: &[u8]) -> usize {
+    let mut i = 0;
+    while i < first.len() {
+        if first[i] == b'\t' {
+            return i;
+        }
+        i += 1;
+    }
+    i
+}
+
+// The number that one to four digits give. Other bytes give 0, which is no line's number.
+fn line_number(digits: &[u8]) -> usize {
+    if 4 < digits.len() {
+        return 0;
+    }
+    let mut line: usize = 0;
+    let mut i = 0;
+    while i < digits.len() {
+        let b = digits[i];
+        if b < b'0' {
+            return 0;
+        }
+        if b'9' < b {
+            return 0;
+        }
+        line = line * 10 + (b - b'0') as usize;
+        i += 1;
+    }
+    line
+}
+
+fn answer(old: &[i32], n: usize, first: &[u8]) {
+    let tab = find_tab(first);
+    if tab < first.len() {
+        let line = line_number(&first[..tab]);
+        if 0 < line {
+            try_edit(old, n, line, &first[tab + 1..]);
+            return;
+        }
+    }
+    show::refused(NO_SUCH_LINE, 0);
+}
+
+fn report(first: &[u8], file: &[u8]) {
+    let mut old = [0i32; 15000];
+    match reader::read(file, &mut old) {
+        Answer::Refused(refusal, line) => show::refused(refusal, line),
+        Answer::Done(n) => answer(&old, n, first),
+    }
+}
+
+fn read_file(first: &[u8]) {
+    // One byte more than a file may have, so that a longer one is seen.
+    let mut file = [0u8; 65537];
+    match show::read_input(&mut file) {
+        Input::Bytes(got) => {
+            if got <= 65537 {
+                report(first, &file[..got]);
+            }
+        }
+        Input::Failed => {}
+    }
+}
+
+// A line's bytes without the one CR that may stand before its LF.
+fn text_of(line: &[u8]) -> &[u8] {
+    let n = line.len();
+    if 0 < n {
+        if line[n - 1] == b'\r' {
+            return &line[..n - 1];
+        }
+    }
+    line
+}
+
+fn main() {
+    // More than a number, a tab and the longest new line: what doesn't fit would be refused anyway.
+    let mut first = [0u8; 1024];
+    match show::read_line(&mut first) {
+        InputLine::Bytes(got) => {
+            if got <= 1024 {
+                read_file(text_of(&first[..got]));
+            }
+        }
+        InputLine::TooLong => show::refused(FILE_TOO_LONG, 0),
+        InputLine::Failed => {}
+    }
+}
