@@ -26,7 +26,6 @@ text-of-requires c κs = search needs
 read-file-requires : tie.Need-read-file-requires
 read-file-requires c κs = search needs
 
--- /work/w-moves/target/rlib/rules.rlib/lang/src/lib.rt:13:37
 enum-told : tie.Need-enum-told
 enum-told c = search needs
 
