@@ -62,7 +62,7 @@ impl State {
         }
     }
 
-    pub fn comment(self) -> Next
+    fn comment(self) -> Next
         ensures { λ r. ⌜ r ≡ S.comment self ⌝ }
     {
         if self.phase >= ENDED {
@@ -71,7 +71,7 @@ impl State {
         Next::To(self)
     }
 
-    pub fn m48(mut self) -> Next
+    fn m48(mut self) -> Next
         ensures { λ r. ⌜ r ≡ S.m48 self ⌝ }
     {
         if self.phase != BEFORE {
@@ -82,7 +82,7 @@ impl State {
     }
 
     /// METRIC, which is unit 1, and INCH, which is unit 2.
-    pub fn unit(mut self, u: u32) -> Next
+    fn unit(mut self, u: u32) -> Next
         ensures { λ r. ⌜ r ≡ S.unit self u ⌝ }
     {
         if self.phase != NO_UNIT {
@@ -94,7 +94,7 @@ impl State {
     }
 
     /// A declaration of tool t. Its diameter is kept by its row, not by the state.
-    pub fn declare(mut self, t: u32) -> Next
+    fn declare(mut self, t: u32) -> Next
         ensures { λ r. ⌜ r ≡ S.declare self t ⌝ }
     {
         if self.phase != HEADER {
@@ -109,7 +109,7 @@ impl State {
         Next::To(self)
     }
 
-    pub fn percent(mut self) -> Next
+    fn percent(mut self) -> Next
         ensures { λ r. ⌜ r ≡ S.percent self ⌝ }
     {
         if self.phase != HEADER {
@@ -119,7 +119,7 @@ impl State {
         Next::To(self)
     }
 
-    pub fn select(mut self, t: u32) -> Next
+    fn select(mut self, t: u32) -> Next
         ensures { λ r. ⌜ r ≡ S.select self t ⌝ }
     {
         if self.phase != BODY {
@@ -137,7 +137,7 @@ impl State {
     }
 
     /// Drill mode begins at the origin.
-    pub fn g05(mut self) -> Next
+    fn g05(mut self) -> Next
         ensures { λ r. ⌜ r ≡ S.g05 self ⌝ }
     {
         if self.phase != BODY {
@@ -153,7 +153,7 @@ impl State {
     }
 
     /// Rout mode begins at p, with the tool up.
-    pub fn g00(mut self, p: Point) -> Next
+    fn g00(mut self, p: Point) -> Next
         ensures { λ r. ⌜ r ≡ S.g00 self p ⌝ }
     {
         if self.phase != BODY {
@@ -168,7 +168,7 @@ impl State {
     }
 
     /// A hit leaves the point as it is: its own place stands in its row.
-    pub fn hit(self) -> Next
+    fn hit(self) -> Next
         ensures { λ r. ⌜ r ≡ S.hit self ⌝ }
     {
         if self.phase != BODY {
@@ -184,7 +184,7 @@ impl State {
     }
 
     /// Tool down.
-    pub fn m15(mut self) -> Next
+    fn m15(mut self) -> Next
         ensures { λ r. ⌜ r ≡ S.m15 self ⌝ }
     {
         if self.phase != BODY {
@@ -201,7 +201,7 @@ impl State {
     }
 
     /// Tool up.
-    pub fn m16(mut self) -> Next
+    fn m16(mut self) -> Next
         ensures { λ r. ⌜ r ≡ S.m16 self ⌝ }
     {
         if self.phase != BODY {
@@ -215,7 +215,7 @@ impl State {
     }
 
     /// A straight rout to p.
-    pub fn g01(mut self, p: Point) -> Next
+    fn g01(mut self, p: Point) -> Next
         ensures { λ r. ⌜ r ≡ S.g01 self p ⌝ }
     {
         if self.phase != BODY {
@@ -229,7 +229,7 @@ impl State {
     }
 
     /// A rout along an arc, G02 or G03.
-    pub fn arc(mut self, a: Arc) -> Next
+    fn arc(mut self, a: Arc) -> Next
         ensures { λ r. ⌜ r ≡ S.arc self a ⌝ }
     {
         if self.phase != BODY {
@@ -247,7 +247,7 @@ impl State {
         Next::No(IMPOSSIBLE_ARC)
     }
 
-    pub fn m30(mut self) -> Next
+    fn m30(mut self) -> Next
         ensures { λ r. ⌜ r ≡ S.m30 self ⌝ }
     {
         if self.phase != BODY {
