@@ -11,7 +11,7 @@ use lib.IntN.{ℤ}
 use lib.ListN.{length, drop}
 use Rattle.lists.specs.Choice.{pick}
 use Rattle.lists.specs.Put.{putAt}
-use Rattle.runs.specs.Machine.{stops, Verdict, accepted, refused, onVerdict}
+use Rattle.runs.specs.Machine.{Verdict, accepted, refused, onVerdict}
 use Rattle.rules.specs.declared.Refusal.{Refusal}
 use Rattle.rules.specs.declared.Answer.the-variants.{Done, Refused}
 use Rattle.rules.specs.Refusals.{noRoom}
@@ -21,7 +21,6 @@ use Rattle.rules.specs.Obeys.{ReadingOf, Obeys}
 use Rattle.rules.specs.Holes.{holeOf}
 use Rattle.rules.specs.Asking.{holeAnswer}
 use Rattle.obeys.specs.Faults.{Faulty}
-use Rattle.obeys.proofs.Split.{line-in-file}
 use Rattle.obeys.proofs.Files.{file-iff, one-reading, refused-says}
 use Rattle.demands.specs.Demand2.{rowOf, stateBefore, HoldsReading, ReadRefused, faulty, short, ReadsRight, Demand2}
 use Rattle.demands.proofs.WhichRefusals.{faulty-of}
@@ -94,4 +93,4 @@ module _ (bs : List ℕ) (t : List ℤ) where
   }
 
 pub demand-2 : Demand2
-demand-2 = record { reads = reads-right; first-fault = λ i l e. line-in-file i l (stops e) }
+demand-2 = record { reads = reads-right }

@@ -7,7 +7,7 @@ use Prim.Native.Nat.{ℕ, _+_, _-_, _≤_}
 use native.Mathlib.Omega.{arith}
 use lib.ListN.{length, length-append}
 use Rattle.lists.specs.Put.{putAt}
-use Rattle.runs.specs.Machine.{Out, yields, stops, onOut, Verdict, accepted, refused, allHold, Span, lastOf, run, rerun}
+use Rattle.runs.specs.Machine.{Out, yields, stops, onOut, Verdict, accepted, refused, allHold, Span, lastOf, run}
 use Rattle.runs.proofs.Append.{befores, Accepts, run-reads}
 use Rattle.runs.proofs.Agree.{reads-length}
 use Rattle.runs.proofs.Rerun.{told}

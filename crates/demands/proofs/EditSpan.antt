@@ -11,6 +11,7 @@ use Rattle.lists.specs.Choice.{pick}
 use Rattle.lists.proofs.Choice.{pick-all}
 use Rattle.runs.specs.Machine.{Verdict, accepted, refused, onVerdict, Row, Entry, holds, Span, widen, rerun}
 use Rattle.runs.proofs.Meeting.{rerun-counted}
+use Rattle.runs.proofs.Ways.{out-all}
 use Rattle.rules.specs.declared.Command.{Command}
 use Rattle.rules.specs.declared.State.{State}
 use Rattle.rules.specs.declared.Refusal.{Refusal}
@@ -21,7 +22,7 @@ use Rattle.rules.specs.State.{taken, hasEnded, sameState}
 use Rattle.rules.specs.Rows.{entriesOf, sizesFit}
 use Rattle.rules.specs.Reading.{sayOut}
 use Rattle.rules.specs.Editing.{isLine, noLineEnd, entryAt, editFrom, editRows, editOf, editAnswer}
-use Rattle.demands.proofs.Ways.{out-all, state-all, before-all}
+use Rattle.demands.proofs.Ways.{state-all, before-all}
 
 -- a rerun whose first row is found whole makes one
 abbrev SomeRows : Verdict (Span Command State) Refusal → Type 0
@@ -65,7 +66,7 @@ module _ (es : List (Entry Command State)) (k : ℕ) (a : 1 ≤ k) (b : k ≤ le
   pub edit-spans : (s : Span Command State) → editRows es k l ≡ accepted s → SpanOf (length es) k s
   unfolding editRows Spans
   edit-spans =
-      before-all Spans es k (λ i. refused-spans badTable i)
+      before-all Spans es k (λ i _. refused-spans badTable i)
       (λ p. state-all Spans (entryAt es k) (refused-spans badTable k)
       (λ o. out-all Spans (sayOut (lineOf l)) (λ e _. refused-spans e k) (λ c _. rerun-spans p o c)))
 

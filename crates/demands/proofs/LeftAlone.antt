@@ -1,36 +1,40 @@
 -- What reading, editing and writing leave of what is lent. An answer and what it leaves come from one verdict: on a refusal
 -- nothing is put anywhere, on success a list is put in one place, inside what is lent, and that leaves the rest.
-use mathlib.Core.Path.{_≡_, refl, ap, _∙_, subst}
+use mathlib.Core.Path.{_≡_, refl, sym, ap, _∙_, subst}
 use mathlib.Core.Bool.{Bool, true, false}
-use mathlib.Core.List.{List}
+use mathlib.Core.List.{List, [], _∷_}
 use Prim.Native.Nat.{ℕ, _+_, _-_, _*_, _≤_}
 use native.Mathlib.Omega.{arith}
 use borrow.Author.Tests.{leb-true}
 use lib.Dec.{leb}
 use lib.IntN.{ℤ}
-use lib.ListN.{length, take, drop}
+use lib.ListN.{length, take, drop, length-append}
 use Rattle.lists.specs.Choice.{pick}
 use Rattle.lists.specs.Put.{putAt}
 use Rattle.lists.proofs.Choice.{pick-all}
 use Rattle.lists.proofs.Put.{put-length, put-before, put-after}
 use Rattle.runs.specs.Machine.{Verdict, accepted, refused, onVerdict, Span}
+use Rattle.runs.proofs.Hold.{hold-length}
 use Rattle.rules.specs.declared.Command.{Command}
 use Rattle.rules.specs.declared.State.{State}
 use Rattle.rules.specs.declared.Refusal.{Refusal}
 use Rattle.rules.specs.declared.Answer.the-variants.{Done, Refused}
 use Rattle.rules.specs.Refusals.{noRoom}
+use Rattle.rules.specs.Numbers.{maxLines}
 use Rattle.rules.specs.Rows.{rowWidth, tableNumbers, entriesOf, sizesFit}
 use Rattle.rules.specs.Reading.{Rows, fileOf, hasRoom, inRoom, withRows, readAnswer, readLeaves}
 use Rattle.rules.specs.Editing.{isLine, noLineEnd, editOf, editAnswer, editLeaves}
-use Rattle.rules.specs.Writing.{textOfRows, rowsOf, inBlock, withText, writeAnswer, writeLeaves}
+use Rattle.rules.specs.Writing.{lineText, textOfRows, rowsOf, inBlock, withText, writeAnswer, writeLeaves}
 use Rattle.obeys.proofs.Files.{refused-says}
 use Rattle.table.proofs.Entries.{table-length, entries-length}
-use Rattle.demands.specs.Demand1.{among, readRefusals, editRefusals, writeRefusals, ReadLeavesRest, EditLeavesRest, WriteLeavesRest}
+use Rattle.writer.proofs.Lengths.{line-short}
+use Rattle.demands.specs.Demand1.{among, OnLine, longestLine, readRefusals, editRefusals, writeRefusals, ReadLeavesRest, EditLeavesRest, WriteLeavesRest}
 use Rattle.demands.proofs.WhichRefusals.{Refuses, faulty-of, edit-refuses-of, rows-refuses}
+use Rattle.demands.proofs.WhichLines.{Named, faulty-upto, edit-lines, rows-lines}
 use Rattle.demands.proofs.EditSpan.{SpanOf, edit-spans, edit-tests, edit-done}
 use Rattle.demands.proofs.EditTable.{sizes-say, line-says}
 use Rattle.demands.proofs.AcceptedFile.{read-done, read-writes, file-few}
-use Rattle.demands.proofs.WrittenTable.{write-done, write-writes}
+use Rattle.demands.proofs.WrittenTable.{rows-good, write-done, write-writes}
 
 -- ---- reading
 
@@ -46,15 +50,18 @@ file-refusals bs e i h =
 
 module _ (bs : List ℕ) (t : List ℤ) where
   no-room : (rs : Rows) (e : Refusal) (i : ℕ) (b : Bool) → pick b (Done (length rs)) (Refused noRoom 0) ≡ Refused e i
-      → (pick b (putAt t 0 (tableNumbers rs)) t ≡ t) × InRead e
+      → (pick b (putAt t 0 (tableNumbers rs)) t ≡ t) × InRead e × (i ≤ maxLines + 1)
   unfolding InRead
   no-room rs e i true h = absurd (let z : _≡_ {A = ℕ} 0 1 = cc in omega arith)
-  no-room rs e i false h = let d : noRoom ≡ e = cc in (refl, subst InRead d refl)
+  no-room rs e i false h = let d : noRoom ≡ e = cc in let z : 0 ≡ i = cc in (refl, subst InRead d refl, omega arith)
 
   not-read : (e : Refusal) (i : ℕ) (v : Verdict Rows Refusal) → fileOf bs ≡ v → onVerdict v Refused (inRoom t) ≡ Refused e i
-      → (onVerdict v (λ e i. t) (withRows t) ≡ t) × InRead e
+      → (onVerdict v (λ e i. t) (withRows t) ≡ t) × InRead e × (i ≤ maxLines + 1)
   not-read e i (accepted rs) w h = no-room rs e i (hasRoom t (length rs)) h
-  not-read e i (refused a j) w h = let d : a ≡ e = cc in (refl, subst InRead d (file-refusals bs a j w))
+  not-read e i (refused a j) w h =
+      let d : a ≡ e = cc in
+      let z : j ≡ i = cc in
+      (refl, subst InRead d (file-refusals bs a j w), omega (arith, faulty-upto (refused-says bs a j .0 w)))
 
   read-beyond : (n : ℕ) → readAnswer bs t ≡ Done n → drop (rowWidth * n) (readLeaves bs t) ≡ drop (rowWidth * n) t
   read-beyond n h =
@@ -96,16 +103,17 @@ module _ (t : List ℤ) (n k : ℕ) (l : List ℕ) where
       (record { long = refl; byte = refl; form = refl; range = refl }) refl refl (entriesOf n t) k l)
       (λ _. refl)) (λ _. refl)) (λ _. refl)
 
-  not-edited : (e : Refusal) (i : ℕ) (v : Verdict (Span Command State) Refusal) → Refuses InEdit v → onVerdict v Refused (λ s. Done (s .meeting)) ≡ Refused e i
-      → (onVerdict v (λ e i. t) (λ s. putAt t (rowWidth * (k - 1)) (tableNumbers (s .rows))) ≡ t) × InEdit e
-  not-edited e i (accepted s) w h = absurd (let z : _≡_ {A = ℕ} 0 1 = cc in omega arith)
-  not-edited e i (refused a j) w h = let d : a ≡ e = cc in (refl, subst InEdit d w)
+  not-edited : (e : Refusal) (i : ℕ) (v : Verdict (Span Command State) Refusal) → Refuses InEdit v → Named (n + 1) (maxLines + 1) v → onVerdict v Refused (λ s. Done (s .meeting)) ≡ Refused e i
+      → (onVerdict v (λ e i. t) (λ s. putAt t (rowWidth * (k - 1)) (tableNumbers (s .rows))) ≡ t) × InEdit e × OnLine (n + 1) (maxLines + 1) i
+  not-edited e i (accepted s) w o h = absurd (let z : _≡_ {A = ℕ} 0 1 = cc in omega arith)
+  not-edited e i (refused a j) w o h = let d : a ≡ e = cc in let z : j ≡ i = cc in (refl, subst InEdit d w, subst (OnLine (n + 1) (maxLines + 1)) z o)
 
   module _ (s : Span Command State) (h : editOf t n k l ≡ accepted s) where
     -- the span's rows stand inside
     record Inside : Type 0 where
       first : 1 ≤ k
       span : SpanOf n k s
+      few : n ≤ maxLines
       room : rowWidth * n ≤ length t
       end : rowWidth * (k - 1) + length (tableNumbers (s .rows)) ≡ rowWidth * (s .meeting)
 
@@ -115,7 +123,7 @@ module _ (t : List ℤ) (n k : ℕ) (l : List ℕ) where
         let p = line-says n k (d .line) in
         let c = entries-length n t in
         let z = subst (λ (j : ℕ). SpanOf j k s) c (edit-spans (entriesOf n t) k (p .0) (omega arith) l s (d .made)) in
-        record { first = p .0; span = z; room = sizes-say t n (d .sizes) .room; end = omega (arith, table-length (s .rows), z .counted) }
+        record { first = p .0; span = z; few = sizes-say t n (d .sizes) .few; room = sizes-say t n (d .sizes) .room; end = omega (arith, table-length (s .rows), z .counted) }
 
     edit-left : editLeaves t n k l ≡ putAt t (rowWidth * (k - 1)) (tableNumbers (s .rows))
     unfolding editLeaves
@@ -145,11 +153,11 @@ module _ (t : List ℤ) (n k : ℕ) (l : List ℕ) where
   pub edit-rest : EditLeavesRest t n k l
   unfolding editAnswer editLeaves InEdit
   edit-rest = record {
-    refused = λ e i h. not-edited e i (editOf t n k l) edit-refusals h;
+    refused = λ e i h. not-edited e i (editOf t n k l) edit-refusals (edit-lines t n k l) h;
     inside = λ m h.
         let d = edit-done t n k l m h in
         let c = inside (d .span) (d .verdict) in
-        (c .first, omega (arith, c .span .counted, c .span .some, d .meets), omega (arith, c .span .counted, c .span .upto, d .meets), c .room);
+        (c .first, omega (arith, c .span .counted, c .span .some, d .meets), omega (arith, c .span .counted, c .span .upto, d .meets), c .few, c .room);
     before = λ m h. let d = edit-done t n k l m h in edit-before (d .span) (d .verdict);
     after = λ m h. let d = edit-done t n k l m h in
         subst (λ (j : ℕ). drop (rowWidth * j) (editLeaves t n k l) ≡ drop (rowWidth * j) t) (d .meets) (edit-after (d .span) (d .verdict));
@@ -157,6 +165,11 @@ module _ (t : List ℤ) (n k : ℕ) (l : List ℕ) where
   }
 
 -- ---- writing
+
+rows-short : (rs : Rows) → length (textOfRows rs) ≤ longestLine * length rs
+unfolding textOfRows
+rows-short [] = omega arith
+rows-short (r ∷ rs) = omega (arith, length-append (lineText (r .command)) (textOfRows rs), line-short (r .command), rows-short rs)
 
 InWrite : Refusal → Type 0
 InWrite e = among writeRefusals (e .number) ≡ true
@@ -166,15 +179,23 @@ module _ (t : List ℤ) (n : ℕ) (b : List ℕ) where
   unfolding InWrite
   write-refusals = rows-refuses InWrite refl t n
 
-  no-block : (x : List ℕ) (e : Refusal) (i : ℕ) (c : Bool) → pick c (Done (length x)) (Refused noRoom 0) ≡ Refused e i → (pick c (putAt b 0 x) b ≡ b) × InWrite e
+  no-block : (x : List ℕ) (e : Refusal) (i : ℕ) (c : Bool) → pick c (Done (length x)) (Refused noRoom 0) ≡ Refused e i
+      → (pick c (putAt b 0 x) b ≡ b) × InWrite e × OnLine n maxLines i
   unfolding InWrite
   no-block x e i true h = absurd (let z : _≡_ {A = ℕ} 0 1 = cc in omega arith)
-  no-block x e i false h = let d : noRoom ≡ e = cc in (refl, subst InWrite d refl)
+  no-block x e i false h = let d : noRoom ≡ e = cc in let z : 0 ≡ i = cc in (refl, subst InWrite d refl, (omega arith, omega arith))
 
-  not-written : (e : Refusal) (i : ℕ) (v : Verdict Rows Refusal) → Refuses InWrite v → onVerdict v Refused (λ rs. inBlock b (textOfRows rs)) ≡ Refused e i
-      → (onVerdict v (λ e i. b) (λ rs. withText b (textOfRows rs)) ≡ b) × InWrite e
-  not-written e i (accepted rs) w h = no-block (textOfRows rs) e i (leb (length (textOfRows rs)) (length b)) h
-  not-written e i (refused a j) w h = let d : a ≡ e = cc in (refl, subst InWrite d w)
+  not-written : (e : Refusal) (i : ℕ) (v : Verdict Rows Refusal) → Refuses InWrite v → Named n maxLines v → onVerdict v Refused (λ rs. inBlock b (textOfRows rs)) ≡ Refused e i
+      → (onVerdict v (λ e i. b) (λ rs. withText b (textOfRows rs)) ≡ b) × InWrite e × OnLine n maxLines i
+  not-written e i (accepted rs) w o h = no-block (textOfRows rs) e i (leb (length (textOfRows rs)) (length b)) h
+  not-written e i (refused a j) w o h = let d : a ≡ e = cc in let z : j ≡ i = cc in (refl, subst InWrite d w, subst (OnLine n maxLines) z o)
+
+  write-inside : (m : ℕ) → writeAnswer t n b ≡ Done m → (m ≤ length b) × (m ≤ longestLine * n) × (n ≤ maxLines)
+  write-inside m h =
+      let d = write-done t n b m h in
+      let g = rows-good t n (d .rows) (d .verdict) in
+      let c : length (d .rows) ≡ n = sym (hold-length (d .rows)) ∙ ap length (sym (g .found)) ∙ entries-length n t in
+      (omega (arith, d .counted, d .room), omega (arith, d .counted, rows-short (d .rows), c), sizes-say t n (g .fits) .few)
 
   write-beyond : (m : ℕ) → writeAnswer t n b ≡ Done m → drop m (writeLeaves t n b) ≡ drop m b
   write-beyond m h =
@@ -192,8 +213,8 @@ module _ (t : List ℤ) (n : ℕ) (b : List ℕ) where
   pub write-rest : WriteLeavesRest t n b
   unfolding writeAnswer writeLeaves InWrite
   write-rest = record {
-    refused = λ e i h. not-written e i (rowsOf t n) write-refusals h;
-    inside = λ m h. let d = write-done t n b m h in omega (arith, d .counted, d .room);
+    refused = λ e i h. not-written e i (rowsOf t n) write-refusals (rows-lines t n) h;
+    inside = write-inside;
     beyond = write-beyond;
     as-many = write-length (rowsOf t n);
   }

@@ -7,6 +7,7 @@ pub mod EditRows
 pub mod EditIsReading
 pub mod SameHoles
 pub mod EditTable
+pub mod WhichLines
 pub mod AcceptedFile
 pub mod WrittenTable
 pub mod GoodTables

@@ -7,6 +7,7 @@ use native.Mathlib.Omega.{arith}
 use lib.ListN.{length}
 use Rattle.lists.proofs.Choice.{pick-all}
 use Rattle.runs.specs.Machine.{yields, Verdict, accepted, refused, Row, Entry, holds, bad, allHold, before, lastOf, follow, Follows}
+use Rattle.runs.proofs.Ways.{out-all}
 use Rattle.rules.specs.declared.Command.{Command}
 use Rattle.rules.specs.declared.State.{State}
 use Rattle.rules.specs.declared.Refusal.{Refusal}
@@ -15,7 +16,6 @@ use Rattle.rules.specs.State.{taken, hasEnded, sameState}
 use Rattle.rules.specs.Reading.{Rows}
 use Rattle.rules.proofs.Same.{same-state-iff}
 use Rattle.demands.specs.WriteRefused.{Unfit, NotTable, unfit, unended}
-use Rattle.demands.proofs.Ways.{out-all}
 
 -- rows that must follow
 abbrev pub walk : State → List (Entry Command State) → ℕ → Verdict Rows Refusal

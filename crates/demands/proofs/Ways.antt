@@ -4,22 +4,17 @@ use mathlib.Core.List.{List}
 use Prim.Native.Nat.{ℕ, _-_}
 use lib.Dec.{leb}
 use Rattle.lists.proofs.Choice.{pick-all}
-use Rattle.runs.specs.Machine.{Out, yields, stops, onOut, Entry, holds, bad}
+use Rattle.runs.specs.Machine.{Entry, holds, bad}
 use Rattle.rules.specs.declared.Command.{Command}
 use Rattle.rules.specs.declared.State.{State}
 use Rattle.rules.specs.State.{start}
 use Rattle.rules.specs.Editing.{entryAt, onState, fromBefore}
-
-pub out-all : {A R B : Type 0} (P : B → Type 0) (o : Out A R) {f : R → B} {g : A → B}
-    → ((e : R) → o ≡ stops e → P (f e)) → ((a : A) → o ≡ yields a → P (g a)) → P (onOut o f g)
-out-all P (yields a) s y = y a refl
-out-all P (stops e) s y = s e refl
 
 pub state-all : {A : Type 0} (P : A → Type 0) (e : Entry Command State) {z : A} {f : State → A} → P z → ((p : State) → P (f p)) → P (onState e z f)
 state-all P (holds r) a b = b (r .state)
 state-all P bad a b = a
 
 pub before-all : {A : Type 0} (P : A → Type 0) (es : List (Entry Command State)) (k : ℕ) {z : ℕ → A} {f : State → A}
-    → ((i : ℕ) → P (z i)) → ((p : State) → P (f p)) → P (fromBefore es k z f)
+    → ((i : ℕ) → i ≡ k - 1 → P (z i)) → ((p : State) → P (f p)) → P (fromBefore es k z f)
 unfolding fromBefore
-before-all P es k a b = pick-all P (leb k 1) (λ _. b start) (λ _. state-all P (entryAt es (k - 1)) (a (k - 1)) b)
+before-all P es k a b = pick-all P (leb k 1) (λ _. b start) (λ _. state-all P (entryAt es (k - 1)) (a (k - 1) refl) b)

@@ -9,6 +9,7 @@ use lib.IntN.{ℤ}
 use lib.ListN.{drop}
 use Rattle.lists.proofs.Choice.{pick-all}
 use Rattle.runs.specs.Machine.{Out, yields, stops, Verdict, accepted, refused, Row, Entry, holds, bad, Span, widen, rerun, follow, before}
+use Rattle.runs.proofs.Ways.{out-all}
 use Rattle.rules.specs.declared.Command.{Command}
 use Rattle.rules.specs.declared.Command.the-variants.{Comment, M48, Metric, Inch, Declare, Percent, G05, G00, Select, Hit, M15, M16, G01, G02, G03, M30}
 use Rattle.rules.specs.declared.State.{State}
@@ -18,13 +19,12 @@ use Rattle.rules.specs.declared.HoleAnswer.{HoleAnswer}
 use Rattle.rules.specs.declared.HoleAnswer.the-variants as H
 use Rattle.rules.specs.declared.DiameterAnswer.{DiameterAnswer}
 use Rattle.rules.specs.declared.DiameterAnswer.the-variants as D
-use Rattle.rules.specs.declared.Next.{Next}
 use Rattle.rules.specs.declared.LineAnswer.{LineAnswer}
 use Rattle.rules.specs.Refusals.{fileTooLong, tooManyLines, lineNotEnded, lineTooLong, forbiddenByte, noSuchForm, outOfRange, wrongPhase, wrongMotion, declaredAlready, notDeclared, noToolSelected, impossibleArc, endsTooSoon, badTable}
 use Rattle.rules.specs.Numbers.{isTool}
 use Rattle.rules.specs.Lines.{Line}
 use Rattle.rules.specs.Commands.{lineOf}
-use Rattle.rules.specs.State.{start, need, step, outOf, taken, hasEnded, sameState}
+use Rattle.rules.specs.State.{start, taken, hasEnded, sameState}
 use Rattle.rules.specs.Rows.{entriesOf, sizesFit}
 use Rattle.rules.specs.Holes.{holeOf}
 use Rattle.rules.specs.Reading.{sayOut, Rows}
@@ -32,11 +32,11 @@ use Rattle.rules.specs.Editing.{isLine, entryAt, editFrom, editRows}
 use Rattle.rules.specs.Asking.{onRow, holeIn, holeAnswer, onDeclared, diameterIn, diameterAnswer}
 use Rattle.rules.specs.Writing.{rowsOf}
 use Rattle.obeys.specs.Says.{CommandSays, spells, no-form, no-command, LineSays, too-long, forbidden, allowed, LineInFile, too-many, not-ended, line-says}
-use Rattle.obeys.specs.Faults.{Fault, unread, untaken, missing, Faulty, too-large, at-line}
+use Rattle.obeys.specs.Faults.{Untaken, wrong-phase, wrong-motion, declared, undeclared, hit-without, down-without, g02-impossible, g03-impossible, Fault, unread, untaken, missing, Faulty, too-large, at-line}
 use Rattle.obeys.proofs.Lines.{line-sound}
-use Rattle.obeys.proofs.Split.{line-in-file}
+use Rattle.obeys.proofs.Files.{taken-refused}
 use Rattle.demands.specs.Demand1.{among, holeRefusals, diameterRefusals}
-use Rattle.demands.proofs.Ways.{out-all, state-all, before-all}
+use Rattle.demands.proofs.Ways.{state-all, before-all}
 
 -- ---- a property of every refusal that comes
 
@@ -87,36 +87,22 @@ module _ (P : Refusal → Type 0) (h : OfLines P) where
 -- ---- a step
 
 module _ (P : Refusal → Type 0) (h : OfSteps P) where
-  need-stops : (b : Bool) (e : Refusal) (x : Next) → P e → Stops P (outOf x) → Stops P (outOf (need b e x))
-  unfolding need
-  need-stops true e x p q = q
-  need-stops false e x p q = p
-
-  pub step-stops : (s : State) (c : Command) → Stops P (taken s c)
-  unfolding step
-  step-stops s Comment = need-stops _ _ _ (h .phase) tt
-  step-stops s M48 = need-stops _ _ _ (h .phase) tt
-  step-stops s Metric = need-stops _ _ _ (h .phase) tt
-  step-stops s Inch = need-stops _ _ _ (h .phase) tt
-  step-stops s (Declare t d) = need-stops _ _ _ (h .phase) (need-stops _ _ _ (h .again) tt)
-  step-stops s Percent = need-stops _ _ _ (h .phase) tt
-  step-stops s G05 = need-stops _ _ _ (h .phase) (need-stops _ _ _ (h .motion) tt)
-  step-stops s (G00 p) = need-stops _ _ _ (h .phase) (need-stops _ _ _ (h .motion) tt)
-  step-stops s (Select t) = need-stops _ _ _ (h .phase) (need-stops _ _ _ (h .motion) (need-stops _ _ _ (h .undeclared) tt))
-  step-stops s (Hit p) = need-stops _ _ _ (h .phase) (need-stops _ _ _ (h .motion) (need-stops _ _ _ (h .unselected) tt))
-  step-stops s M15 = need-stops _ _ _ (h .phase) (need-stops _ _ _ (h .motion) (need-stops _ _ _ (h .unselected) tt))
-  step-stops s M16 = need-stops _ _ _ (h .phase) (need-stops _ _ _ (h .motion) tt)
-  step-stops s (G01 p) = need-stops _ _ _ (h .phase) (need-stops _ _ _ (h .motion) tt)
-  step-stops s (G02 a) = need-stops _ _ _ (h .phase) (need-stops _ _ _ (h .motion) (need-stops _ _ _ (h .arc) tt))
-  step-stops s (G03 a) = need-stops _ _ _ (h .phase) (need-stops _ _ _ (h .motion) (need-stops _ _ _ (h .arc) tt))
-  step-stops s M30 = need-stops _ _ _ (h .phase) (need-stops _ _ _ (h .motion) tt)
+  untaken-of : {s : State} {c : Command} {e : Refusal} → Untaken s c e → P e
+  untaken-of (wrong-phase n) = h .phase
+  untaken-of (wrong-motion p n) = h .motion
+  untaken-of (declared p n) = h .again
+  untaken-of (undeclared p n) = h .undeclared
+  untaken-of (hit-without m n) = h .unselected
+  untaken-of (down-without m n) = h .unselected
+  untaken-of (g02-impossible m n) = h .arc
+  untaken-of (g03-impossible m n) = h .arc
 
 -- ---- a file
 
 module _ (P : Refusal → Type 0) (steps : OfSteps P) (lines : OfLines P) (large : P fileTooLong) (many : P tooManyLines) (unended : P lineNotEnded) (short : P endsTooSoon) where
   fault-of : {i : ℕ} {p : State} {ls : List Line} {e : Refusal} → Fault i p ls e → P e
-  fault-of {i} (unread {l = l} {e = e} u) = in-file-stops P lines many unended (line-in-file i l (stops e) .0 u)
-  fault-of {p = p} (untaken {c = c} u v) = subst (Stops P) v (step-stops P steps p c)
+  fault-of (unread u) = in-file-stops P lines many unended u
+  fault-of (untaken u v) = untaken-of P steps v
   fault-of (missing n) = short
 
   pub faulty-of : {bs : List ℕ} {e : Refusal} {i : ℕ} → Faulty bs e i → P e
@@ -135,14 +121,14 @@ module _ (P : Refusal → Type 0) (steps : OfSteps P) (lines : OfLines P) (damag
   rerun-refuses p [] i = pick-all (Refuses P) (hasEnded p) (λ _. tt) (λ _. short)
   rerun-refuses p (bad ∷ es) i = damaged
   rerun-refuses p (holds r ∷ es) i =
-      out-all (Refuses P) (taken p (r .command)) (λ e h. subst (Stops P) h (step-stops P steps p (r .command)))
+      out-all (Refuses P) (taken p (r .command)) (λ e h. untaken-of P steps (taken-refused p (r .command) e h))
       (λ q _. pick-all (Refuses P) (sameState q (r .state)) (λ _. tt)
       (λ _. widen-refuses (record { command = r .command; state = q }) (rerun taken sameState hasEnded badTable endsTooSoon q es (i + 1)) (rerun-refuses q es (i + 1))))
 
   pub edit-refuses-of : (es : List (Entry Command State)) (k : ℕ) (l : List ℕ) → Refuses P (editRows es k l)
   unfolding editRows editFrom
   edit-refuses-of es k l =
-      before-all (Refuses P) es k (λ _. damaged)
+      before-all (Refuses P) es k (λ _ _. damaged)
       (λ p. state-all (Refuses P) (entryAt es k) damaged
       (λ o. out-all (Refuses P) (sayOut (lineOf l)) (λ e h. subst (Stops P) h (line-stops P lines l)) (λ c _. rerun-refuses p (holds (record { command = c; state = o }) ∷ drop k es) (k - 1))))
 
@@ -202,7 +188,7 @@ unfolding holeAnswer holeIn InHole
 hole-refusals t n k =
     pick-all InHole (sizesFit t n)
     (λ _. pick-all InHole (isLine n k)
-    (λ _. before-all InHole (entriesOf n t) k (λ _. refl) (λ p. hole-row (p .at) k (entryAt (entriesOf n t) k)))
+    (λ _. before-all InHole (entriesOf n t) k (λ _ _. refl) (λ p. hole-row (p .at) k (entryAt (entriesOf n t) k)))
     (λ _. refl)) (λ _. refl)
 
 pub hole-refused : (t : List ℤ) (n k : ℕ) (e : Refusal) (i : ℕ) → holeAnswer t n k ≡ H.Refused e i → among holeRefusals (e .number) ≡ true

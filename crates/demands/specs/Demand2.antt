@@ -6,7 +6,7 @@ use Prim.Native.Nat.{ℕ, _-_, _*_, _<_, _≤_}
 use lib.IntN.{ℤ}
 use lib.ListN.{length, getD}
 use Rattle.lists.specs.Put.{putAt}
-use Rattle.runs.specs.Machine.{stops, Row, allHold}
+use Rattle.runs.specs.Machine.{Row, allHold}
 use Rattle.runs.specs.Agreement.{stateAfter}
 use Rattle.rules.specs.declared.Command.{Command}
 use Rattle.rules.specs.declared.Command.the-variants.{Comment}
@@ -15,14 +15,12 @@ use Rattle.rules.specs.declared.Refusal.{Refusal}
 use Rattle.rules.specs.declared.Answer.the-variants.{Done, Refused}
 use Rattle.rules.specs.Refusals.{noRoom}
 use Rattle.rules.specs.Numbers.{maxLines}
-use Rattle.rules.specs.Lines.{Line}
 use Rattle.rules.specs.State.{start}
 use Rattle.rules.specs.Rows.{rowWidth, tableNumbers, entriesOf, Good}
-use Rattle.rules.specs.Reading.{Rows, commandIn, readAnswer, readLeaves}
+use Rattle.rules.specs.Reading.{Rows, readAnswer, readLeaves}
 use Rattle.rules.specs.Obeys.{ReadingOf, Obeys}
 use Rattle.rules.specs.Holes.{holeOf}
 use Rattle.rules.specs.Asking.{holeAnswer}
-use Rattle.obeys.specs.Says.{LineInFile}
 use Rattle.obeys.specs.Faults.{Faulty}
 
 -- line k's row, and the state before it; lines count from 1. Where there is no such line, it is a row like any other.
@@ -64,5 +62,3 @@ pub record ReadsRight (bs : List ℕ) (t : List ℤ) : Type 0 where
 
 pub record Demand2 : Type 0 where
   pub reads : (bs : List ℕ) (t : List ℤ) → ReadsRight bs t
-  -- of the faults of a line's bytes, the refusal is the first in document 01's order
-  pub first-fault : (i : ℕ) (l : Line) (e : Refusal) → (commandIn i l ≡ stops e → LineInFile i l (stops e)) × (LineInFile i l (stops e) → commandIn i l ≡ stops e)

@@ -5,11 +5,12 @@ use mathlib.Core.Bool.{true}
 use mathlib.Core.List.{List, [], _∷_, _++_}
 use Prim.Native.Nat.{ℕ, _+_, _≤_}
 use native.Mathlib.Omega.{arith}
-use borrow.Author.Tests.{eq-eqb, eqb-true, le-leb, lt-leb, leb-true, leb-false}
+use borrow.Author.Tests.{eq-eqb, ne-eqb, eqb-true, eqb-false, le-leb, lt-leb, leb-true, leb-false}
 use lib.Dec.{leb}
 use lib.ListN.{length}
 use Rattle.lists.proofs.Choice.{pick-all}
 use Rattle.runs.specs.Machine.{Out, yields, stops, onOut, Verdict, accepted, refused, before, lastOf, run}
+use Rattle.runs.proofs.Ways.{out-all}
 use Rattle.rules.specs.declared.Command.{Command}
 use Rattle.rules.specs.declared.State.{State}
 use Rattle.rules.specs.declared.Refusal.{Refusal}
@@ -24,9 +25,32 @@ use Rattle.rules.specs.Spelling as S
 use Rattle.rules.specs.Reading.{Rows, commandIn, runOf, fileOf}
 use Rattle.rules.specs.Obeys.{Takes, Runs, one, ReadingOf, Obeys}
 use Rattle.rules.specs.Obeys as O
-use Rattle.obeys.specs.Faults.{ReadsAs, none, line, Fault, unread, untaken, missing, Faulty, too-large, at-line}
-use Rattle.obeys.proofs.Steps.{step-iff}
-use Rattle.obeys.proofs.Split.{joinOf, join-lines, ended-line, Yields, LineIs, yields-line, line-yields, spells-first, first-spelled}
+use Rattle.obeys.specs.Says.{LineReads}
+use Rattle.obeys.specs.Faults.{Untaken, ReadsAs, none, line, Fault, unread, untaken, missing, Faulty, too-large, at-line}
+use Rattle.obeys.proofs.Steps.{step-iff, refused-iff}
+use Rattle.obeys.proofs.Split.{joinOf, join-lines, ended-line, Yields, line-in-file, yields-line, line-yields, spells-first, first-spelled}
+
+-- ---- one command
+
+taken-takes : (p : State) (c : Command) (q : State) → taken p c ≡ yields q → Takes p c q
+taken-takes p c q e = step-iff p c q .0 (by (step p c) e)
+  where
+    by : (n : Next) → outOf n ≡ yields q → n ≡ To q
+    by (To s) e = let f : s ≡ q = cc in ap To f
+    by (No r) e = absurd (subst Yields (sym e) tt)
+
+takes-taken : {p q : State} {c : Command} → Takes p c q → taken p c ≡ yields q
+takes-taken {p} {q} {c} w = ap outOf (step-iff p c q .1 w)
+
+pub taken-refused : (p : State) (c : Command) (e : Refusal) → taken p c ≡ stops e → Untaken p c e
+taken-refused p c e d = refused-iff p c e .0 (by (step p c) d)
+  where
+    by : (n : Next) → outOf n ≡ stops e → n ≡ No e
+    by (To s) d = absurd (subst Yields d tt)
+    by (No r) d = let f : r ≡ e = cc in ap No f
+
+refused-taken : {p : State} {c : Command} {e : Refusal} → Untaken p c e → taken p c ≡ stops e
+refused-taken {p} {c} {e} w = ap outOf (refused-iff p c e .1 w)
 
 -- ---- a run of lines: how it ends
 
@@ -39,16 +63,11 @@ data Outcome (p : State) (i : ℕ) : List Line → Verdict Rows Refusal → Type
   fault : {xs ys : List Line} {rs : Rows} {e : Refusal} {j : ℕ} → ReadsAs p i xs rs → i + length xs + 1 ≡ j → Fault j (lastOf p rs) ys e
       → Outcome p i (xs ++ ys) (refused e j)
 
-out-all : {A R : Type 0} {B : Type 0} (P : B → Type 0) (o : Out A R) {f : R → B} {g : A → B}
-    → ((e : R) → o ≡ stops e → P (f e)) → ((a : A) → o ≡ yields a → P (g a)) → P (onOut o f g)
-out-all P (yields a) s y = y a refl
-out-all P (stops e) s y = s e refl
-
 first : (p : State) (i : ℕ) (ls : List Line) (e : Refusal) → Fault (i + 1) p ls e → Outcome p i ls (refused e (i + 1))
 unfolding lastOf
 first p i ls e f = fault {xs = []} {j = i + 1} none (omega arith) f
 
-more : (p q : State) (i : ℕ) (l : Line) (ls : List Line) (c : Command) (v : Verdict Rows Refusal) → commandIn (i + 1) l ≡ yields c → taken p c ≡ yields q
+more : (p q : State) (i : ℕ) (l : Line) (ls : List Line) (c : Command) (v : Verdict Rows Refusal) → LineReads (i + 1) l c → Takes p c q
     → Outcome q (i + 1) ls v → Outcome p i (l ∷ ls) (before (record { command = c; state = q }) v)
 unfolding lastOf
 more p q i l ls c v h k (reads w e) = reads (line h k w) e
@@ -56,22 +75,23 @@ more p q i l ls c v h k (fault {xs = xs} {j = j} w n f) = fault {xs = l ∷ xs} 
 
 run-outcome : (ls : List Line) (p : State) (i : ℕ) → Outcome p i ls (runFrom p ls i)
 unfolding run lastOf
-run-outcome [] p i = pick-all (Outcome p i []) (hasEnded p) (λ e. reads none e) (λ e. first p i [] endsTooSoon (missing e))
+run-outcome [] p i = pick-all (Outcome p i []) (hasEnded p) (λ e. reads none e) (λ e. first p i [] endsTooSoon (missing (eqb-false (p .phase) 4 e)))
 run-outcome (l ∷ ls) p i =
-    out-all (Outcome p i (l ∷ ls)) (commandIn (i + 1) l) (λ e h. first p i (l ∷ ls) e (unread h))
-    (λ c h. out-all (Outcome p i (l ∷ ls)) (taken p c) (λ e k. first p i (l ∷ ls) e (untaken h k))
-    (λ q k. more p q i l ls c (runFrom q ls (i + 1)) h k (run-outcome ls q (i + 1))))
+    out-all (Outcome p i (l ∷ ls)) (commandIn (i + 1) l) (λ e h. first p i (l ∷ ls) e (unread (line-in-file (i + 1) l (stops e) .0 h)))
+    (λ c h. let w : LineReads (i + 1) l c = yields-line (i + 1) l c h in
+    out-all (Outcome p i (l ∷ ls)) (taken p c) (λ e k. first p i (l ∷ ls) e (untaken w (taken-refused p c e k)))
+    (λ q k. more p q i l ls c (runFrom q ls (i + 1)) w (taken-takes p c q k) (run-outcome ls q (i + 1))))
 
 reads-run : {p : State} {i : ℕ} {ls : List Line} {rs : Rows} → ReadsAs p i ls rs → hasEnded (lastOf p rs) ≡ true → runFrom p ls i ≡ accepted rs
 unfolding run lastOf
 reads-run none e = rw e
-reads-run (line h k w) e = rw (h, k, reads-run w e)
+reads-run (line h k w) e = rw (line-yields h, takes-taken k, reads-run w e)
 
 fault-first : {p : State} {ys : List Line} {e : Refusal} (i : ℕ) → Fault (i + 1) p ys e → runFrom p ys i ≡ refused e (i + 1)
 unfolding run
-fault-first i (unread h) = rw h
-fault-first i (untaken h k) = rw (h, k)
-fault-first i (missing h) = rw h
+fault-first {e = e} i (unread {l = l} h) = rw (line-in-file (i + 1) l (stops e) .1 h)
+fault-first i (untaken h k) = rw (line-yields h, refused-taken k)
+fault-first {p} i (missing h) = rw (ne-eqb (p .phase) 4 h)
 
 fault-run : {p : State} {i : ℕ} {xs ys : List Line} {rs : Rows} {e : Refusal} (j : ℕ) → ReadsAs p i xs rs → i + length xs + 1 ≡ j → Fault j (lastOf p rs) ys e
     → runFrom p (xs ++ ys) i ≡ refused e j
@@ -79,7 +99,7 @@ unfolding run lastOf
 fault-run {p} {i} {ys = ys} {e = e} j none n f =
     let m : j ≡ i + 1 = omega (arith, n) in
     fault-first i (subst (λ (z : ℕ). Fault z p ys e) m f) ∙ ap (refused e) (sym m)
-fault-run j (line h k w) n f = rw (h, k, fault-run j w (omega (arith, n)) f)
+fault-run j (line h k w) n f = rw (line-yields h, takes-taken k, fault-run j w (omega (arith, n)) f)
 
 -- ---- lines that read are a reading
 
@@ -89,26 +109,15 @@ record Spelled (p : State) (i : ℕ) (bs : List ℕ) (rs : Rows) : Type 0 where
   spelling : SpellsFile bs commands
   runs : Runs p commands rs
 
-taken-takes : (p : State) (c : Command) (q : State) → taken p c ≡ yields q → Takes p c q
-taken-takes p c q e = step-iff p c q .0 (by (step p c) e)
-  where
-    by : (n : Next) → outOf n ≡ yields q → n ≡ To q
-    by (To s) e = let f : s ≡ q = cc in ap To f
-    by (No r) e = absurd (subst Yields (sym e) tt)
-
-takes-taken : {p q : State} {c : Command} → Takes p c q → taken p c ≡ yields q
-takes-taken {p} {q} {c} w = ap outOf (step-iff p c q .1 w)
-
 reads-spelled : {p : State} {i : ℕ} {ls : List Line} {rs : Rows} → ReadsAs p i ls rs → i ≤ maxLines → Spelled p i (joinOf ls) rs
 reads-spelled none b = record { commands = []; count = omega arith; spelling = empty; runs = O.none }
 reads-spelled {p} {i} (line {q = q} {l = l} {ls = ls} {c = c} h k w) b =
-    let f : LineIs (i + 1) l c = yields-line (i + 1) l c h in
-    let ih = reads-spelled w (f .counted) in
+    let ih = reads-spelled w (h .counted) in
     record {
       commands = c ∷ ih .commands;
       count = omega (arith, ih .count);
-      spelling = spells-first l (joinOf ls) c (ih .commands) f (ih .spelling);
-      runs = one (taken-takes p c q k) (ih .runs);
+      spelling = spells-first l (joinOf ls) c (ih .commands) h (ih .spelling);
+      runs = one k (ih .runs);
     }
 
 spelled-reads : {p : State} {bs : List ℕ} {cs : List Command} {rs : Rows} (i : ℕ) → SpellsFile bs cs → Runs p cs rs → i + length cs ≤ maxLines
@@ -117,8 +126,8 @@ unfolding linesOf
 spelled-reads i empty O.none b = none
 spelled-reads {p} i (S.line {l = l} {rest = rest} {c = c} w e f) (one {q = q} {rs = rs} t r) b =
     let h = first-spelled (w .printable) e rest in
-    let v : LineIs (i + 1) (ended-line (h .b)) c = record { counted = omega arith; ends = refl; spelling = subst (λ (z : List ℕ). SpellsLine z c) (sym (h .cut)) w } in
-    subst (λ (z : List Line). ReadsAs p i z (record { command = c; state = q } ∷ rs)) (sym (h .falls)) (line (line-yields v) (takes-taken t) (spelled-reads (i + 1) f r (omega arith)))
+    let v : LineReads (i + 1) (ended-line (h .b)) c = record { counted = omega arith; ends = refl; spelling = subst (λ (z : List ℕ). SpellsLine z c) (sym (h .cut)) w } in
+    subst (λ (z : List Line). ReadsAs p i z (record { command = c; state = q } ∷ rs)) (sym (h .falls)) (line v t (spelled-reads (i + 1) f r (omega arith)))
 
 -- ---- a file
 

@@ -21,7 +21,7 @@ use Rattle.rules.specs.Commands.{says}
 use Rattle.rules.specs.Spelling.{Printable, byte, SpellsLine, LineEnd, lf, crlf, SpellsFile, line}
 use Rattle.rules.specs.Spelling as S
 use Rattle.rules.specs.Reading.{sayOut, commandIn}
-use Rattle.obeys.specs.Says.{LineInFile, too-many, not-ended, line-says}
+use Rattle.obeys.specs.Says.{LineInFile, too-many, not-ended, line-says, LineReads}
 use Rattle.obeys.proofs.Lines.{line-sound, line-answer, line-read, says-line}
 
 -- ---- lines, put together again
@@ -126,12 +126,6 @@ abbrev pub Yields : {A R : Type 0} → Out A R → Type 0
 Yields (yields a) = Unit {0}
 Yields (stops e) = ⊥
 
--- a line of a file that yields a command
-pub record LineIs (i : ℕ) (l : Line) (c : Command) : Type 0 where
-  pub counted : i ≤ maxLines
-  pub ends : l .ended ≡ true
-  pub spelling : SpellsLine (textOf (l .bytes)) c
-
 out-says : (a : LineAnswer) (c : Command) → sayOut a ≡ yields c → a ≡ says c
 out-says a c = by (eqb (a .refusal .number) 0) refl
   where
@@ -142,15 +136,15 @@ out-says a c = by (eqb (a .refusal .number) 0) refl
         λ i. record { refusal = record { number = n i }; command = d i }
     by false e f = absurd (subst Yields (sym f) tt)
 
-pub yields-line : (i : ℕ) (l : Line) (c : Command) → commandIn i l ≡ yields c → LineIs i l c
+pub yields-line : (i : ℕ) (l : Line) (c : Command) → commandIn i l ≡ yields c → LineReads i l c
 yields-line i l c e = by (in-file-sound i l) e
   where
-    by : {o : Out Command Refusal} → LineInFile i l o → o ≡ yields c → LineIs i l c
+    by : {o : Out Command Refusal} → LineInFile i l o → o ≡ yields c → LineReads i l c
     by (too-many h) e = absurd (subst Yields (sym e) tt)
     by (not-ended h f) e = absurd (subst Yields (sym e) tt)
     by (line-says {a = a} h f w) e = record { counted = h; ends = f; spelling = says-line w (out-says a c e) }
 
-pub line-yields : {i : ℕ} {l : Line} {c : Command} → LineIs i l c → commandIn i l ≡ yields c
+pub line-yields : {i : ℕ} {l : Line} {c : Command} → LineReads i l c → commandIn i l ≡ yields c
 unfolding commandIn
 line-yields {i} w = rw (le-leb i maxLines (w .counted), w .ends, line-read (w .spelling))
 
@@ -160,7 +154,7 @@ cut-spells : {b t rest : List ℕ} {c : Command} {cs : List Command} → CutTo b
 cut-spells same w f = line w lf f
 cut-spells {rest = rest} {c} {cs} (less {t = t}) w f = subst (λ (z : List ℕ). SpellsFile z (c ∷ cs)) (sym (append-assoc t (CR ∷ []) (LF ∷ rest))) (line w crlf f)
 
-pub spells-first : {i : ℕ} (l : Line) (rest : List ℕ) (c : Command) (cs : List Command) → LineIs i l c → SpellsFile rest cs
+pub spells-first : {i : ℕ} (l : Line) (rest : List ℕ) (c : Command) (cs : List Command) → LineReads i l c → SpellsFile rest cs
     → SpellsFile (l .bytes ++ (pick (l .ended) (LF ∷ []) [] ++ rest)) (c ∷ cs)
 spells-first l rest c cs w f = rw (w .ends) (cut-spells (text-cut (l .bytes)) (w .spelling) f)
 

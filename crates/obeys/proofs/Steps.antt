@@ -1,9 +1,9 @@
--- A command is taken exactly where the rules let it come, and to the state they say: a test of a command is one fact of
--- the relation.
+-- A command is taken exactly where the rules let it come, and to the state they say; it is refused exactly as they say, the
+-- phase before the motion, both before the rest: a test of a command is one fact of the relations.
 use mathlib.Core.Path.{_≡_, refl, sym, ap, _∙_, subst}
 use mathlib.Core.Bool.{Bool, true, false, not, false≢true}
 use Prim.Native.Nat.{ℕ, _*_}
-use borrow.Author.Tests.{eq-eqb, ne-eqb, eqb-true, eqb-false, lt-ltb, ltb-true, le-leb, leb-true, not-true}
+use borrow.Author.Tests.{eq-eqb, ne-eqb, eqb-true, eqb-false, lt-ltb, ltb-true, ltb-false, le-leb, leb-true, not-true, not-false}
 use lib.Dec.{eqb, ltb, leb}
 use Rattle.lists.proofs.Choice.{both}
 use Rattle.rules.specs.declared.Point.{Point}
@@ -19,16 +19,22 @@ use Rattle.rules.specs.Set.{has}
 use Rattle.rules.specs.State.{phaseIs, motionIs, isSelected, samePoint, squareOfDistance, fourSquares, isPossible, need, step}
 use Rattle.rules.proofs.Same.{same-point-iff}
 use Rattle.rules.specs.Obeys.{Free, Moving, Possible, Takes, comment, m48, metric, inch, declare, percent, g05, g00, select, hit, m15, m16, g01, g02, g03, m30}
+use Rattle.obeys.specs.Faults.{InItsPhase, InItsMotion, Untaken, wrong-phase, wrong-motion, declared, undeclared, hit-without, down-without, g02-impossible, g03-impossible}
+
+so : (t : Bool) → (t ≡ false → ⊥) → t ≡ true
+so true h = refl
+so false h = absurd (h refl)
+
+not-so : (t : Bool) → (t ≡ true → ⊥) → t ≡ false
+not-so true h = absurd (h refl)
+not-so false h = refl
 
 -- ---- arcs
 
 possible-read : {s : Point} {a : Arc} → Possible s a → isPossible s a ≡ true
 unfolding isPossible fourSquares
-possible-read {s} {a} w = rw (apart (samePoint s (a .to)) refl, le-leb (squareOfDistance s (a .to)) (4 * (a .radius * a .radius)) (w .near))
-  where
-    apart : (t : Bool) → samePoint s (a .to) ≡ t → samePoint s (a .to) ≡ false
-    apart true e = absurd (w .apart (same-point-iff s (a .to) .0 e))
-    apart false e = e
+possible-read {s} {a} w =
+    rw (not-so (samePoint s (a .to)) (λ e. w .apart (same-point-iff s (a .to) .0 e)), le-leb (squareOfDistance s (a .to)) (4 * (a .radius * a .radius)) (w .near))
 
 read-possible : (s : Point) (a : Arc) → isPossible s a ≡ true → Possible s a
 unfolding isPossible fourSquares
@@ -60,59 +66,135 @@ step-read {s} (g02 h w) = rw (eq-eqb (s .phase) 3 (h .body), eq-eqb (s .motion) 
 step-read {s} (g03 h w) = rw (eq-eqb (s .phase) 3 (h .body), eq-eqb (s .motion) 3 (h .motion), possible-read w)
 step-read {s} (m30 h) = rw (eq-eqb (s .phase) 3 (h .body), ne-eqb (s .motion) 3 (h .not-down))
 
--- ---- what is taken may come
+-- ---- what may not come is refused
 
-need-all : (P : Next → Type 0) (t : Bool) (e : Refusal) {x : Next} → P (No e) → (t ≡ true → P x) → P (need t e x)
+phase-read : (s : State) (c : Command) → (InItsPhase c (s .phase) → ⊥) → step s c ≡ No wrongPhase
+unfolding step need
+phase-read s Comment h = rw (not-so (ltb (s .phase) 4) (λ e. h (ltb-true (s .phase) 4 e)))
+phase-read s M48 h = rw (ne-eqb (s .phase) 0 h)
+phase-read s Metric h = rw (ne-eqb (s .phase) 1 h)
+phase-read s Inch h = rw (ne-eqb (s .phase) 1 h)
+phase-read s (Declare t d) h = rw (ne-eqb (s .phase) 2 h)
+phase-read s Percent h = rw (ne-eqb (s .phase) 2 h)
+phase-read s G05 h = rw (ne-eqb (s .phase) 3 h)
+phase-read s (G00 p) h = rw (ne-eqb (s .phase) 3 h)
+phase-read s (Select t) h = rw (ne-eqb (s .phase) 3 h)
+phase-read s (Hit p) h = rw (ne-eqb (s .phase) 3 h)
+phase-read s M15 h = rw (ne-eqb (s .phase) 3 h)
+phase-read s M16 h = rw (ne-eqb (s .phase) 3 h)
+phase-read s (G01 p) h = rw (ne-eqb (s .phase) 3 h)
+phase-read s (G02 a) h = rw (ne-eqb (s .phase) 3 h)
+phase-read s (G03 a) h = rw (ne-eqb (s .phase) 3 h)
+phase-read s M30 h = rw (ne-eqb (s .phase) 3 h)
+
+-- the tool is down
+is-down : (m : ℕ) → ((m ≡ 3 → ⊥) → ⊥) → eqb m 3 ≡ true
+is-down m h = so (eqb m 3) (λ e. h (eqb-false m 3 e))
+
+motion-read : (s : State) (c : Command) → InItsPhase c (s .phase) → (InItsMotion c (s .motion) → ⊥) → step s c ≡ No wrongMotion
+unfolding step need
+motion-read s Comment p h = absurd (h tt)
+motion-read s M48 p h = absurd (h tt)
+motion-read s Metric p h = absurd (h tt)
+motion-read s Inch p h = absurd (h tt)
+motion-read s (Declare t d) p h = absurd (h tt)
+motion-read s Percent p h = absurd (h tt)
+motion-read s G05 p h = rw (eq-eqb (s .phase) 3 p, is-down (s .motion) h)
+motion-read s (G00 q) p h = rw (eq-eqb (s .phase) 3 p, is-down (s .motion) h)
+motion-read s (Select t) p h = rw (eq-eqb (s .phase) 3 p, is-down (s .motion) h)
+motion-read s (Hit q) p h = rw (eq-eqb (s .phase) 3 p, ne-eqb (s .motion) 1 h)
+motion-read s M15 p h = rw (eq-eqb (s .phase) 3 p, ne-eqb (s .motion) 2 h)
+motion-read s M16 p h = rw (eq-eqb (s .phase) 3 p, ne-eqb (s .motion) 3 h)
+motion-read s (G01 q) p h = rw (eq-eqb (s .phase) 3 p, ne-eqb (s .motion) 3 h)
+motion-read s (G02 a) p h = rw (eq-eqb (s .phase) 3 p, ne-eqb (s .motion) 3 h)
+motion-read s (G03 a) p h = rw (eq-eqb (s .phase) 3 p, ne-eqb (s .motion) 3 h)
+motion-read s M30 p h = rw (eq-eqb (s .phase) 3 p, is-down (s .motion) h)
+
+impossible-read : (s : Point) (a : Arc) → (Possible s a → ⊥) → isPossible s a ≡ false
+impossible-read s a h = not-so (isPossible s a) (λ e. h (read-possible s a e))
+
+step-refuses : {s : State} {c : Command} {e : Refusal} → Untaken s c e → step s c ≡ No e
+unfolding step need
+step-refuses {s} (wrong-phase {c = c} h) = phase-read s c h
+step-refuses {s} (wrong-motion {c = c} p h) = motion-read s c p h
+step-refuses {s} (declared h n) = rw (eq-eqb (s .phase) 2 h, n)
+step-refuses {s} (undeclared h n) = rw (eq-eqb (s .phase) 3 (h .body), ne-eqb (s .motion) 3 (h .not-down), n)
+step-refuses {s} (hit-without h n) = rw (eq-eqb (s .phase) 3 (h .body), eq-eqb (s .motion) 1 (h .motion), eq-eqb (s .tool) 0 n)
+step-refuses {s} (down-without h n) = rw (eq-eqb (s .phase) 3 (h .body), eq-eqb (s .motion) 2 (h .motion), eq-eqb (s .tool) 0 n)
+step-refuses {s} (g02-impossible {a = a} h w) = rw (eq-eqb (s .phase) 3 (h .body), eq-eqb (s .motion) 3 (h .motion), impossible-read (s .at) a w)
+step-refuses {s} (g03-impossible {a = a} h w) = rw (eq-eqb (s .phase) 3 (h .body), eq-eqb (s .motion) 3 (h .motion), impossible-read (s .at) a w)
+
+-- ---- and the other way: what a step says is so
+
+need-all : (P : Next → Type 0) (t : Bool) (e : Refusal) {x : Next} → (t ≡ false → P (No e)) → (t ≡ true → P x) → P (need t e x)
 unfolding need
 need-all P true e z g = g refl
-need-all P false e z g = z
+need-all P false e z g = z refl
 
-abbrev Sound : State → Command → Next → Type 0
-Sound s c (To q) = Takes s c q
-Sound s c (No e) = Unit {0}
+abbrev Says : State → Command → Next → Type 0
+Says s c (To q) = Takes s c q
+Says s c (No e) = Untaken s c e
 
 -- the tests that more than one command has
-module _ (s : State) (P : Next → Type 0) (z : (e : Refusal) → P (No e)) {x : Next} where
-  in-phase : (n : ℕ) → (s .phase ≡ n → P x) → P (need (phaseIs n s) wrongPhase x)
-  in-phase n g = need-all P (phaseIs n s) wrongPhase (z wrongPhase) (λ e. g (eqb-true (s .phase) n e))
+module _ (s : State) (P : Next → Type 0) {x : Next} where
+  in-phase : (n : ℕ) → ((s .phase ≡ n → ⊥) → P (No wrongPhase)) → (s .phase ≡ n → P x) → P (need (phaseIs n s) wrongPhase x)
+  in-phase n z g = need-all P (phaseIs n s) wrongPhase (λ e. z (eqb-false (s .phase) n e)) (λ e. g (eqb-true (s .phase) n e))
 
-  in-motion : (n : ℕ) → (Moving n s → P x) → P (need (phaseIs 3 s) wrongPhase (need (motionIs n s) wrongMotion x))
-  in-motion n g =
-      need-all P (phaseIs 3 s) wrongPhase (z wrongPhase)
-      (λ p. need-all P (motionIs n s) wrongMotion (z wrongMotion) (λ m. g (record { body = eqb-true (s .phase) 3 p; motion = eqb-true (s .motion) n m })))
+  selected : (s .tool ≡ 0 → P (No noToolSelected)) → ((s .tool ≡ 0 → ⊥) → P x) → P (need (isSelected s) noToolSelected x)
+  selected z g =
+      need-all P (isSelected s) noToolSelected (λ t. z (eqb-true (s .tool) 0 (not-false (eqb (s .tool) 0) t)))
+      (λ t. g (eqb-false (s .tool) 0 (not-true (eqb (s .tool) 0) t)))
 
-  free : (Free s → P x) → P (need (phaseIs 3 s) wrongPhase (need (not (motionIs 3 s)) wrongMotion x))
-  free g =
-      need-all P (phaseIs 3 s) wrongPhase (z wrongPhase)
-      (λ p. need-all P (not (motionIs 3 s)) wrongMotion (z wrongMotion)
-      (λ m. g (record { body = eqb-true (s .phase) 3 p; not-down = eqb-false (s .motion) 3 (not-true (motionIs 3 s) m) })))
+  possible : (a : Arc) → ((Possible (s .at) a → ⊥) → P (No impossibleArc)) → (Possible (s .at) a → P x) → P (need (isPossible (s .at) a) impossibleArc x)
+  possible a z g =
+      need-all P (isPossible (s .at) a) impossibleArc (λ t. z (λ w. false≢true (sym t ∙ possible-read w))) (λ t. g (read-possible (s .at) a t))
 
-  selected : ((s .tool ≡ 0 → ⊥) → P x) → P (need (isSelected s) noToolSelected x)
-  selected g = need-all P (isSelected s) noToolSelected (z noToolSelected) (λ t. g (eqb-false (s .tool) 0 (not-true (eqb (s .tool) 0) t)))
+module _ (s : State) (P : Next → Type 0) (phase : (s .phase ≡ 3 → ⊥) → P (No wrongPhase)) {x : Next} where
+  in-motion : (n : ℕ) → (s .phase ≡ 3 → (s .motion ≡ n → ⊥) → P (No wrongMotion)) → (Moving n s → P x)
+      → P (need (phaseIs 3 s) wrongPhase (need (motionIs n s) wrongMotion x))
+  in-motion n z g =
+      in-phase s P 3 phase
+      (λ p. need-all P (motionIs n s) wrongMotion (λ m. z p (eqb-false (s .motion) n m)) (λ m. g (record { body = p; motion = eqb-true (s .motion) n m })))
 
-  possible : (a : Arc) → (Possible (s .at) a → P x) → P (need (isPossible (s .at) a) impossibleArc x)
-  possible a g = need-all P (isPossible (s .at) a) impossibleArc (z impossibleArc) (λ t. g (read-possible (s .at) a t))
+  free : (s .phase ≡ 3 → ((s .motion ≡ 3 → ⊥) → ⊥) → P (No wrongMotion)) → (Free s → P x)
+      → P (need (phaseIs 3 s) wrongPhase (need (not (motionIs 3 s)) wrongMotion x))
+  free z g =
+      in-phase s P 3 phase
+      (λ p. need-all P (not (motionIs 3 s)) wrongMotion (λ m. z p (λ n. n (eqb-true (s .motion) 3 (not-false (motionIs 3 s) m))))
+      (λ m. g (record { body = p; not-down = eqb-false (s .motion) 3 (not-true (motionIs 3 s) m) })))
 
-step-sound : (s : State) (c : Command) → Sound s c (step s c)
+step-sound : (s : State) (c : Command) → Says s c (step s c)
 unfolding step
-step-sound s Comment = need-all (Sound s Comment) (ltb (s .phase) 4) wrongPhase tt (λ e. comment (ltb-true (s .phase) 4 e))
-step-sound s M48 = in-phase s (Sound s M48) (λ _. tt) 0 (λ h. m48 h)
-step-sound s Metric = in-phase s (Sound s Metric) (λ _. tt) 1 (λ h. metric h)
-step-sound s Inch = in-phase s (Sound s Inch) (λ _. tt) 1 (λ h. inch h)
+step-sound s Comment =
+    need-all (Says s Comment) (ltb (s .phase) 4) wrongPhase (λ e. wrong-phase (λ h. false≢true (sym e ∙ lt-ltb (s .phase) 4 h)))
+    (λ e. comment (ltb-true (s .phase) 4 e))
+step-sound s M48 = in-phase s (Says s M48) 0 (λ n. wrong-phase n) (λ h. m48 h)
+step-sound s Metric = in-phase s (Says s Metric) 1 (λ n. wrong-phase n) (λ h. metric h)
+step-sound s Inch = in-phase s (Says s Inch) 1 (λ n. wrong-phase n) (λ h. inch h)
 step-sound s (Declare t d) =
-    in-phase s (Sound s (Declare t d)) (λ _. tt) 2
-    (λ h. need-all (Sound s (Declare t d)) (not (has (s .tools) t)) declaredAlready tt (λ n. declare h (not-true (has (s .tools) t) n)))
-step-sound s Percent = in-phase s (Sound s Percent) (λ _. tt) 2 (λ h. percent h)
-step-sound s G05 = free s (Sound s G05) (λ _. tt) (λ h. g05 h)
-step-sound s (G00 p) = free s (Sound s (G00 p)) (λ _. tt) (λ h. g00 h)
-step-sound s (Select t) = free s (Sound s (Select t)) (λ _. tt) (λ h. need-all (Sound s (Select t)) (has (s .tools) t) notDeclared tt (λ n. select h n))
-step-sound s (Hit p) = in-motion s (Sound s (Hit p)) (λ _. tt) 1 (λ h. selected s (Sound s (Hit p)) (λ _. tt) (λ n. hit h n))
-step-sound s M15 = in-motion s (Sound s M15) (λ _. tt) 2 (λ h. selected s (Sound s M15) (λ _. tt) (λ n. m15 h n))
-step-sound s M16 = in-motion s (Sound s M16) (λ _. tt) 3 (λ h. m16 h)
-step-sound s (G01 p) = in-motion s (Sound s (G01 p)) (λ _. tt) 3 (λ h. g01 h)
-step-sound s (G02 a) = in-motion s (Sound s (G02 a)) (λ _. tt) 3 (λ h. possible s (Sound s (G02 a)) (λ _. tt) a (λ w. g02 h w))
-step-sound s (G03 a) = in-motion s (Sound s (G03 a)) (λ _. tt) 3 (λ h. possible s (Sound s (G03 a)) (λ _. tt) a (λ w. g03 h w))
-step-sound s M30 = free s (Sound s M30) (λ _. tt) (λ h. m30 h)
+    in-phase s (Says s (Declare t d)) 2 (λ n. wrong-phase n)
+    (λ h. need-all (Says s (Declare t d)) (not (has (s .tools) t)) declaredAlready (λ n. declared h (not-false (has (s .tools) t) n))
+    (λ n. declare h (not-true (has (s .tools) t) n)))
+step-sound s Percent = in-phase s (Says s Percent) 2 (λ n. wrong-phase n) (λ h. percent h)
+step-sound s G05 = free s (Says s G05) (λ n. wrong-phase n) (λ p n. wrong-motion p n) (λ h. g05 h)
+step-sound s (G00 q) = free s (Says s (G00 q)) (λ n. wrong-phase n) (λ p n. wrong-motion p n) (λ h. g00 h)
+step-sound s (Select t) =
+    free s (Says s (Select t)) (λ n. wrong-phase n) (λ p n. wrong-motion p n)
+    (λ h. need-all (Says s (Select t)) (has (s .tools) t) notDeclared (λ n. undeclared h n) (λ n. select h n))
+step-sound s (Hit q) =
+    in-motion s (Says s (Hit q)) (λ n. wrong-phase n) 1 (λ p n. wrong-motion p n) (λ h. selected s (Says s (Hit q)) (λ n. hit-without h n) (λ n. hit h n))
+step-sound s M15 =
+    in-motion s (Says s M15) (λ n. wrong-phase n) 2 (λ p n. wrong-motion p n) (λ h. selected s (Says s M15) (λ n. down-without h n) (λ n. m15 h n))
+step-sound s M16 = in-motion s (Says s M16) (λ n. wrong-phase n) 3 (λ p n. wrong-motion p n) (λ h. m16 h)
+step-sound s (G01 q) = in-motion s (Says s (G01 q)) (λ n. wrong-phase n) 3 (λ p n. wrong-motion p n) (λ h. g01 h)
+step-sound s (G02 a) =
+    in-motion s (Says s (G02 a)) (λ n. wrong-phase n) 3 (λ p n. wrong-motion p n) (λ h. possible s (Says s (G02 a)) a (λ w. g02-impossible h w) (λ w. g02 h w))
+step-sound s (G03 a) =
+    in-motion s (Says s (G03 a)) (λ n. wrong-phase n) 3 (λ p n. wrong-motion p n) (λ h. possible s (Says s (G03 a)) a (λ w. g03-impossible h w) (λ w. g03 h w))
+step-sound s M30 = free s (Says s M30) (λ n. wrong-phase n) (λ p n. wrong-motion p n) (λ h. m30 h)
 
 pub step-iff : (s : State) (c : Command) (q : State) → (step s c ≡ To q → Takes s c q) × (Takes s c q → step s c ≡ To q)
-step-iff s c q = (λ e. subst (Sound s c) e (step-sound s c), step-read)
+step-iff s c q = (λ e. subst (Says s c) e (step-sound s c), step-read)
+
+pub refused-iff : (s : State) (c : Command) (e : Refusal) → (step s c ≡ No e → Untaken s c e) × (Untaken s c e → step s c ≡ No e)
+refused-iff s c e = (λ d. subst (Says s c) d (step-sound s c), step-refuses)

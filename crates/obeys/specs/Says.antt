@@ -12,7 +12,7 @@ use Rattle.rules.specs.Refusals.{tooManyLines, lineNotEnded, lineTooLong, forbi
 use Rattle.rules.specs.Numbers.{maxLines, maxLine}
 use Rattle.rules.specs.Lines.{Line, textOf}
 use Rattle.rules.specs.Commands.{Form, says, saysNo}
-use Rattle.rules.specs.Spelling.{Spells, Means, Printable, SpellsCommand}
+use Rattle.rules.specs.Spelling.{Spells, Means, Printable, SpellsCommand, SpellsLine}
 use Rattle.rules.specs.Reading.{sayOut}
 
 -- the command; or 5, no form at all; or 7, a form whose numbers mean no command
@@ -32,3 +32,9 @@ pub data LineInFile (i : ℕ) (l : Line) : Out Command Refusal → Type 0 where
   too-many : maxLines < i → LineInFile i l (stops tooManyLines)
   not-ended : i ≤ maxLines → l .ended ≡ false → LineInFile i l (stops lineNotEnded)
   line-says : {a : LineAnswer} → i ≤ maxLines → l .ended ≡ true → LineSays (textOf (l .bytes)) a → LineInFile i l (sayOut a)
+
+-- and where it is a command: line i of a file is ended, and its bytes without its end spell that command
+pub record LineReads (i : ℕ) (l : Line) (c : Command) : Type 0 where
+  pub counted : i ≤ maxLines
+  pub ends : l .ended ≡ true
+  pub spelling : SpellsLine (textOf (l .bytes)) c

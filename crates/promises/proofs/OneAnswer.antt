@@ -144,48 +144,6 @@ tools-same d e = one (S.sameTools d e)
 pub state-new : OneAnswer (λ r. r ≡ S.start)
 state-new = one S.start
 
-pub state-comment : (s : State) → OneAnswer (λ r. r ≡ S.comment s)
-state-comment s = one (S.comment s)
-
-pub state-m48 : (s : State) → OneAnswer (λ r. r ≡ S.m48 s)
-state-m48 s = one (S.m48 s)
-
-pub state-unit : (s : State) (u : ℕ) → OneAnswer (λ r. r ≡ S.unit s u)
-state-unit s u = one (S.unit s u)
-
-pub state-declare : (s : State) (t : ℕ) → OneAnswer (λ r. r ≡ S.declare s t)
-state-declare s t = one (S.declare s t)
-
-pub state-percent : (s : State) → OneAnswer (λ r. r ≡ S.percent s)
-state-percent s = one (S.percent s)
-
-pub state-select : (s : State) (t : ℕ) → OneAnswer (λ r. r ≡ S.select s t)
-state-select s t = one (S.select s t)
-
-pub state-g05 : (s : State) → OneAnswer (λ r. r ≡ S.g05 s)
-state-g05 s = one (S.g05 s)
-
-pub state-g00 : (s : State) (p : Point) → OneAnswer (λ r. r ≡ S.g00 s p)
-state-g00 s p = one (S.g00 s p)
-
-pub state-hit : (s : State) → OneAnswer (λ r. r ≡ S.hit s)
-state-hit s = one (S.hit s)
-
-pub state-m15 : (s : State) → OneAnswer (λ r. r ≡ S.m15 s)
-state-m15 s = one (S.m15 s)
-
-pub state-m16 : (s : State) → OneAnswer (λ r. r ≡ S.m16 s)
-state-m16 s = one (S.m16 s)
-
-pub state-g01 : (s : State) (p : Point) → OneAnswer (λ r. r ≡ S.g01 s p)
-state-g01 s p = one (S.g01 s p)
-
-pub state-arc : (s : State) (a : Arc) → OneAnswer (λ r. r ≡ S.arc s a)
-state-arc s a = one (S.arc s a)
-
-pub state-m30 : (s : State) → OneAnswer (λ r. r ≡ S.m30 s)
-state-m30 s = one (S.m30 s)
-
 pub state-step : (s : State) (c : Command) → OneAnswer (λ r. r ≡ S.step s c)
 state-step s c = one (S.step s c)
 

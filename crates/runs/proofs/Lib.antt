@@ -1,3 +1,4 @@
+pub mod Ways
 pub mod Append
 pub mod Agree
 pub mod Rerun

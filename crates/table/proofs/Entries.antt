@@ -13,7 +13,7 @@ use lib.ListN.{length, getD, take, drop, length-append, length-drop, take-append
 use lib.Seq.{drop-drop, take-at, drop-at, length-take-le, take-append-le, drop-append-le, getD-drop}
 use Rattle.lists.specs.Choice.{pick}
 use Rattle.lists.specs.Put.{putAt}
-use Rattle.lists.proofs.Put.{put-length, put-before, put-after}
+use Rattle.lists.proofs.Put.{put-length, put-before, put-from, put-after}
 use Rattle.runs.specs.Machine as M
 use Rattle.runs.specs.Machine.{Entry, holds, bad, allHold}
 use Rattle.rules.specs.declared.Command.{Command}
@@ -139,9 +139,6 @@ entries-table (r ∷ rs) rest h =
     (ap (_∷_ (holds r)) (entries-table rs rest (h .2)))
 
 -- ---- rows written into a table
-
-put-from : (t : List ℤ) (p : ℕ) (xs : List ℤ) → p ≤ length t → drop p (putAt t p xs) ≡ xs ++ drop (p + length xs) t
-put-from t p xs h = ap (drop p) (append-assoc (take p t) xs (drop (p + length xs) t)) ∙ drop-at (take p t) (xs ++ drop (p + length xs) t) p (length-take-le p t h)
 
 module _ (n : ℕ) (t : List ℤ) (k : ℕ) (rs : List (M.Row Command State)) (h : k + length rs ≤ n) (m : 15 * n ≤ length t) where
   fits : 15 * k + length (tableNumbers rs) ≤ 15 * n

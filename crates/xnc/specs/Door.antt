@@ -1,7 +1,7 @@
 -- An answer as one number of 64 bits: its number in document 01 times 2^32, and the count or line.
 use mathlib.Core.Bool.{Bool, true, false}
 use mathlib.Core.List.{List, [], _∷_}
-use Prim.Native.Nat.{ℕ, _+_, _*_, _%_, _≤_}
+use Prim.Native.Nat.{ℕ, _+_, _*_, _≤_}
 use lib.Dec.{leb}
 use lib.IntN.{ℤ, pos}
 use lib.ListN.{length}
@@ -21,7 +21,7 @@ shift = 4294967296
 
 -- a number of document 01, and the value beside it
 abbrev pub both : ℕ → ℕ → ℕ
-both number value = number * shift + value % shift
+both number value = number * shift + value
 
 abbrev pub packedRefusal : Refusal → ℕ → ℕ
 packedRefusal e i = both (e .number) i

@@ -1,14 +1,14 @@
 // The door for C and Rust: numbers and slices only. An answer is its number in document 01 times 2^32, plus the line of the
 // refusal or, where the number is 0, the count.
 ghost use mathlib.Core.Path.{_≡_};
-ghost use Prim.Native.Nat.{_≤_};
+ghost use Prim.Native.Nat.{_≤_, _<_};
 ghost use lib.ListN.{length};
 ghost use Rattle.lists.specs.Put.{putAt};
-ghost use Rattle.rules.specs.Reading.{readAnswer, readLeaves};
+ghost use Rattle.rules.specs.Reading.{valueOf, readAnswer, readLeaves};
 ghost use Rattle.rules.specs.Editing.{editAnswer, editLeaves};
 ghost use Rattle.rules.specs.Writing.{writeAnswer, writeLeaves};
 ghost use Rattle.rules.specs.Asking.{holeAnswer};
-ghost use Rattle.xnc.specs.Door.{packed, packedRefusal, HoleOk, holeNumbers, holePacked, holeLeaves};
+ghost use Rattle.xnc.specs.Door.{shift, packed, packedRefusal, HoleOk, holeNumbers, holePacked, holeLeaves};
 use rules::Answer;
 use rules::Hole;
 use rules::HoleAnswer;
@@ -20,18 +20,20 @@ const SHIFT: u64 = 4294967296;
 // Numbers of a hole: kind, tool, start x and y, end x and y, radius.
 const HOLE_WIDTH: usize = 7;
 
-// A refusal's number and its line.
+// A refusal's number and its line. No line and no count comes near 2^32, so nothing is cut off.
 fn pack_refusal(refusal: Refusal, line: usize) -> u64
+    requires { ⌜ line < shift ⌝ }
     ensures { λ r. ⌜ r ≡ packedRefusal refusal line ⌝ }
 {
-    (refusal.number as u64) * SHIFT + (line as u64) % SHIFT
+    (refusal.number as u64) * SHIFT + line as u64
 }
 
 fn pack(answer: Answer) -> u64
+    requires { ⌜ valueOf answer < shift ⌝ }
     ensures { λ r. ⌜ r ≡ packed answer ⌝ }
 {
     match answer {
-        Answer::Done(count) => (count as u64) % SHIFT,
+        Answer::Done(count) => count as u64,
         Answer::Refused(refusal, line) => pack_refusal(refusal, line),
     }
 }

@@ -2,6 +2,7 @@
 use mathlib.Core.Path.{sym}
 use native.Mathlib.Nat.{zero-add}
 use Rattle.xnc.specs.Door.{packed}
+use Rattle.xnc.proofs.Small.{line-small}
 use borrow.Author.Needs.{needs}
 use Rattle.xnc.proofs.pack.Statement.{statement}
 use Rattle.xnc.proofs.pack.Tie as tie
@@ -13,7 +14,7 @@ enum-known-answer-2 : tie.Need-enum-known-answer-2
 enum-known-answer-2 c = search needs
 
 pack-refusal-requires : tie.Need-pack-refusal-requires
-pack-refusal-requires c κs = search needs
+pack-refusal-requires c κs = line-small _ _ (c .before .answer2 .given .1) (c .before .before .before .pre)
 
 returns : tie.Need-returns
 unfolding packed

@@ -1,6 +1,7 @@
 -- What the edit answers, packed; what it leaves.
 use mathlib.Core.Path.{ap, _∙_}
 use Rattle.xnc.specs.Door.{packed}
+use Rattle.xnc.proofs.Small.{edit-small}
 use borrow.Author.Needs.{needs}
 use Rattle.xnc.proofs.xnc_edit.Statement.{statement}
 use Rattle.xnc.proofs.xnc_edit.Tie as tie
@@ -9,7 +10,7 @@ edit-requires : tie.Need-edit-requires
 edit-requires c κs = search needs
 
 pack-requires : tie.Need-pack-requires
-pack-requires c κs = search needs
+pack-requires c κs = edit-small _ _ _ _ _ (c .before .edit .ensures .answer)
 
 same-length : tie.Need-same-length
 same-length c = search needs

@@ -1,5 +1,6 @@
 -- By the question's answer, then the room.
 use Rattle.xnc.proofs.Holes.{made-ok, door-refused, door-none-short, door-none, door-short, door-makes}
+use Rattle.xnc.proofs.Small.{hole-small}
 use borrow.Author.Needs.{needs}
 use Rattle.xnc.proofs.xnc_hole.Statement.{statement}
 use Rattle.xnc.proofs.xnc_hole.Tie as tie
@@ -11,7 +12,7 @@ enum-known-refusal : tie.Need-enum-known-refusal
 enum-known-refusal c = search needs
 
 pack-refusal-requires : tie.Need-pack-refusal-requires
-pack-refusal-requires c κs = search needs
+pack-refusal-requires c κs = hole-small _ _ _ (c .before .before .before .hole .ensures) _ _ (c .before .refusal .given .1)
 
 enum-told : tie.Need-enum-told
 enum-told c = search needs

@@ -1,6 +1,7 @@
 -- What reading answers, packed; what it leaves.
 use mathlib.Core.Path.{ap, _∙_}
 use Rattle.xnc.specs.Door.{packed}
+use Rattle.xnc.proofs.Small.{read-small}
 use borrow.Author.Needs.{needs}
 use Rattle.xnc.proofs.xnc_read.Statement.{statement}
 use Rattle.xnc.proofs.xnc_read.Tie as tie
@@ -9,7 +10,7 @@ read-requires : tie.Need-read-requires
 read-requires c κs = search needs
 
 pack-requires : tie.Need-pack-requires
-pack-requires c κs = search needs
+pack-requires c κs = read-small _ _ _ (c .before .read .ensures .0)
 
 same-length : tie.Need-same-length
 same-length c = search needs

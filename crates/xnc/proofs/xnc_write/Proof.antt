@@ -1,6 +1,7 @@
 -- What writing answers, packed; what it leaves.
 use mathlib.Core.Path.{ap, _∙_}
 use Rattle.xnc.specs.Door.{packed}
+use Rattle.xnc.proofs.Small.{write-small}
 use borrow.Author.Needs.{needs}
 use Rattle.xnc.proofs.xnc_write.Statement.{statement}
 use Rattle.xnc.proofs.xnc_write.Tie as tie
@@ -9,7 +10,7 @@ write-requires : tie.Need-write-requires
 write-requires c κs = search needs
 
 pack-requires : tie.Need-pack-requires
-pack-requires c κs = search needs
+pack-requires c κs = write-small _ _ _ _ (c .before .before .write .ensures .0)
 
 same-length : tie.Need-same-length
 same-length c = search needs
