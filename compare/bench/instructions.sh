@@ -1,32 +1,38 @@
 #!/bin/bash
 # Counts the instructions of every job of the benchmark, for one run of it, in
-# both implementations, by valgrind's callgrind. What comes before and after
-# the runs falls out: the count of 2 runs is taken from that of 12.
+# both implementations: by valgrind's callgrind on x86-64, elsewhere by a plugin
+# of the emulator that runs the x86-64 program. What comes before and after the
+# runs falls out: the count of 2 runs is taken from that of 12.
 #
 #   compare/bench/instructions.sh BENCH [JOB ...]
 #
-# BENCH is the program built by compare/build.sh. COUNT names another command
-# that runs its arguments and prints, last of all, one number of instructions.
+# BENCH is the program that compare/run builds.
 set -euo pipefail
 
 bench=${1:?usage: compare/bench/instructions.sh BENCH [JOB ...]}
 shift
-jobs=("$@")
-[ ${#jobs[@]} -gt 0 ] || mapfile -t jobs < <("$bench" list)
-other=$("$bench" 2>&1 | sed -n 's/.*bench plain|\([a-z]*\) .*/\1/p' || true)
+if [ "$(uname -m)" = x86_64 ]; then
+    run=("$bench")
+    count() {
+        valgrind --tool=callgrind --callgrind-out-file=/dev/null "$bench" "$@" 2>&1 | awk '/Collected/ { print $NF }'
+    }
+else
+    plugin=$(dirname "$bench")/count.so
+    gcc -O2 -shared -fPIC -o "$plugin" "$(dirname "$0")/count.c"
+    run=(qemu-x86_64 "$bench")
+    count() {
+        qemu-x86_64 -plugin "$plugin" "$bench" "$@" 2>&1 | tail -n 1
+    }
+fi
 
-instructions() {
-    if [ -n "${COUNT:-}" ]; then
-        $COUNT "$@" 2>&1 | tail -n 1
-    else
-        valgrind --tool=callgrind --callgrind-out-file=/dev/null "$@" 2>&1 | awk '/Collected/ { print $NF }'
-    fi
-}
+jobs=("$@")
+[ ${#jobs[@]} -gt 0 ] || mapfile -t jobs < <("${run[@]}" list)
+other=$("${run[@]}" 2>&1 | sed -n 's/.*bench plain|\([a-z]*\) .*/\1/p' || true)
 
 one_run() {
     local few many
-    few=$(instructions "$bench" "$1" "$2" 2)
-    many=$(instructions "$bench" "$1" "$2" 12)
+    few=$(count "$1" "$2" 2)
+    many=$(count "$1" "$2" 12)
     echo $(((many - few) / 10))
 }
 

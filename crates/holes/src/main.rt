@@ -102,11 +102,7 @@ fn main() {
     // One byte more than a file may have, so that a longer one is seen.
     let mut file = [0u8; 65537];
     match show::read_input(&mut file) {
-        Input::Bytes(got) => {
-            if got <= 65537 {
-                report(&file[..got]);
-            }
-        }
+        Input::Bytes(got) => report(&file[..got]),
         Input::Failed => {}
     }
 }

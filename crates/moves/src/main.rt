@@ -222,11 +222,7 @@ fn read_file(first: &[u8]) {
     // One byte more than a file may have, so that a longer one is seen.
     let mut file = [0u8; 65537];
     match show::read_input(&mut file) {
-        Input::Bytes(got) => {
-            if got <= 65537 {
-                report(first, &file[..got]);
-            }
-        }
+        Input::Bytes(got) => report(first, &file[..got]),
         Input::Failed => {}
     }
 }
@@ -246,11 +242,7 @@ fn main() {
     // More than a number, a tab and the longest new line: what doesn't fit would be refused anyway.
     let mut first = [0u8; 1024];
     match show::read_line(&mut first) {
-        InputLine::Bytes(got) => {
-            if got <= 1024 {
-                read_file(text_of(&first[..got]));
-            }
-        }
+        InputLine::Bytes(got) => read_file(text_of(&first[..got])),
         InputLine::TooLong => show::refused(FILE_TOO_LONG, 0),
         InputLine::Failed => {}
     }

@@ -1,4 +1,6 @@
 // What the programs print and read: fields parted by tabs, lines ended by LF, on standard output; a file from standard input.
+ghost use lib.ListN.{length};
+ghost use Rattle.show.specs.Got.{Got, GotLine};
 use rules::Hole;
 use rules::Point;
 use rules::Refusal;
@@ -115,7 +117,9 @@ fn read_byte() -> Byte {
 }
 
 /// Reads one line of standard input and its LF. Bytes for which the block has no room are dropped.
-pub fn read_line(block: &mut [u8]) -> InputLine {
+pub fn read_line(block: &mut [u8]) -> InputLine
+    ensures { λ r. ⌜ GotLine (length (now (block .entry))) r ⌝ }
+{
     let mut got = 0;
     let mut passed = 0;
     while passed < MAX_INPUT_LINE {
@@ -142,7 +146,9 @@ pub fn read_line(block: &mut [u8]) -> InputLine {
 }
 
 /// Reads standard input until it ends or the block is full. Nothing but a failed read is an error.
-pub fn read_input(block: &mut [u8]) -> Input {
+pub fn read_input(block: &mut [u8]) -> Input
+    ensures { λ r. ⌜ Got (length (now (block .entry))) r ⌝ }
+{
     let mut got = 0;
     while got < block.len() {
         let read = libc::read(STDIN, &mut block[got..]);

@@ -1,6 +1,7 @@
 -- The bytes got are a part of the block.
 use native.Mathlib.Omega.{arith}
 use lib.ListN.{length-take}
+use Rattle.show.proofs.Got.{line-within}
 use borrow.Author.Needs.{needs}
 use Rattle.moves.proofs.main.Statement.{statement}
 use Rattle.moves.proofs.main.Tie as tie
@@ -15,10 +16,10 @@ enum-known-got : tie.Need-enum-known-got
 enum-known-got c = search needs
 
 array-share-prefix-first : tie.Need-array-share-prefix-first
-array-share-prefix-first c = search needs
+array-share-prefix-first c = omega (arith, line-within _ _ (c .before .got .given .1) (c .before .before .before .before .read-line .ensures))
 
 slice-aggregate-text-of : tie.Need-slice-aggregate-text-of
-slice-aggregate-text-of c = simp length-take (omega arith)
+slice-aggregate-text-of c = simp length-take (omega (arith, line-within _ _ (c .before .before .got .given .1) (c .before .before .before .before .before .read-line .ensures)))
 
 text-of-requires : tie.Need-text-of-requires
 text-of-requires c κs = search needs
@@ -44,9 +45,6 @@ returns-2 c = search needs
 returns-3 : tie.Need-returns-3
 returns-3 c = search needs
 
-returns-4 : tie.Need-returns-4
-returns-4 c = search needs
-
 pub main-spec : {M : Type 1} → statement M
 main-spec =
     tie.close
@@ -63,5 +61,4 @@ main-spec =
     enum-told-2
     returns
     returns-2
-    returns-3
-    returns-4)
+    returns-3)

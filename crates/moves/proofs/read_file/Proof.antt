@@ -1,6 +1,7 @@
 -- The bytes got are a part of the block.
 use native.Mathlib.Omega.{arith}
 use lib.ListN.{length-take}
+use Rattle.show.proofs.Got.{got-within}
 use borrow.Author.Needs.{needs}
 use Rattle.moves.proofs.read_file.Statement.{statement}
 use Rattle.moves.proofs.read_file.Tie as tie
@@ -15,10 +16,10 @@ enum-known-got : tie.Need-enum-known-got
 enum-known-got c = search needs
 
 array-share-prefix-file : tie.Need-array-share-prefix-file
-array-share-prefix-file c = search needs
+array-share-prefix-file c = omega (arith, got-within _ _ (c .before .got .given .1) (c .before .before .before .before .read-input .ensures))
 
 slice-aggregate-report : tie.Need-slice-aggregate-report
-slice-aggregate-report c = simp length-take (omega arith)
+slice-aggregate-report c = simp length-take (omega (arith, got-within _ _ (c .before .before .got .given .1) (c .before .before .before .before .before .read-input .ensures)))
 
 report-requires : tie.Need-report-requires
 report-requires c κs = search needs
@@ -32,9 +33,6 @@ returns c = search needs
 returns-2 : tie.Need-returns-2
 returns-2 c = search needs
 
-returns-3 : tie.Need-returns-3
-returns-3 c = search needs
-
 pub read-file-spec : {M : Type 1} → statement M
 read-file-spec =
     tie.close
@@ -47,5 +45,4 @@ read-file-spec =
     report-requires
     enum-told
     returns
-    returns-2
-    returns-3)
+    returns-2)
