@@ -1,0 +1,5 @@
+pub mod Decimals
+pub mod Lines
+pub mod Signs
+pub mod Tabs
+pub mod Turns

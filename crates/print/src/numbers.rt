@@ -1,0 +1,56 @@
+// Whole numbers in decimal, without leading zeros.
+ghost use mathlib.Core.Path.{_≡_};
+ghost use Prim.Native.Nat.{_+_, _≤_};
+ghost use lib.ListN.{length};
+ghost use Rattle.rules.specs.Printing.{decimal, signedDecimal};
+ghost use Rattle.rules.specs.Writing.{lastDigits};
+ghost use Rattle.writer.specs.Wrote.{Wrote};
+use crate::parts::put_byte;
+
+fn digit_count(n: u64) -> usize
+    ensures { λ r. ⌜ (r ≡ length (decimal n)) × (1 ≤ r) × (r ≤ 20) ⌝ }
+{
+    let mut count = 1;
+    let mut rest = n;
+    while 10 <= rest {
+        count += 1;
+        rest /= 10;
+    }
+    count
+}
+
+/// The last `count` digits of n. They come out last first, so they are written from the end.
+fn put_digits(b: &mut [u8], at: usize, count: usize, n: u64) -> usize
+    requires { ⌜ at + count ≤ length (now b) ⌝ }
+    ensures { λ r. ⌜ Wrote (now (b .entry)) at (lastDigits count n) (now (b .exit)) r ⌝ }
+{
+    let mut left = count;
+    let mut rest = n;
+    while 0 < left {
+        left -= 1;
+        b[at + left] = (48 + rest % 10) as u8;
+        rest /= 10;
+    }
+    at + count
+}
+
+pub(crate) fn put_decimal(b: &mut [u8], at: usize, n: u64) -> usize
+    requires { ⌜ at + length (decimal n) ≤ length (now b) ⌝ }
+    ensures { λ r. ⌜ Wrote (now (b .entry)) at (decimal n) (now (b .exit)) r ⌝ }
+{
+    let count = digit_count(n);
+    put_digits(b, at, count, n)
+}
+
+/// A minus where negative, no plus.
+pub(crate) fn put_signed(b: &mut [u8], at: usize, x: i32) -> usize
+    requires { ⌜ at + length (signedDecimal x) ≤ length (now b) ⌝ }
+    ensures { λ r. ⌜ Wrote (now (b .entry)) at (signedDecimal x) (now (b .exit)) r ⌝ }
+{
+    let size = rules::distance(x, 0);
+    if x < 0 {
+        let digits = put_byte(b, at, b'-');
+        return put_decimal(b, digits, size);
+    }
+    put_decimal(b, at, size)
+}
