@@ -10,25 +10,18 @@ use show::Input;
 const METRIC: u32 = 1;
 
 fn print_unit(state: State) {
-    show::word(b"unit");
-    show::tab();
     if state.unit == METRIC {
-        show::word(b"METRIC");
+        show::word(b"unit\tMETRIC\n");
     } else {
-        show::word(b"INCH");
+        show::word(b"unit\tINCH\n");
     }
-    show::line_end();
 }
 
 fn print_tool(table: &[i32], n: usize, tool: u32) {
     match query::diameter(table, n, tool) {
         DiameterAnswer::Is(diameter) => {
-            show::word(b"tool");
-            show::tab();
-            show::number(tool as u64);
-            show::tab();
-            show::number(diameter as u64);
-            show::line_end();
+            let fields = [tool as u64, diameter as u64];
+            show::numbers(b"tool", &fields);
         }
         DiameterAnswer::Refused(refusal, line) => show::refused(refusal, line),
     }
@@ -50,9 +43,7 @@ fn print_tools(table: &[i32], n: usize, state: State) {
 fn print_hole(table: &[i32], n: usize, line: usize) -> bool {
     match query::hole(table, n, line) {
         HoleAnswer::Makes(hole) => {
-            show::number(line as u64);
-            show::hole(hole);
-            show::line_end();
+            show::hole(line, hole);
             true
         }
         HoleAnswer::Nothing => false,
@@ -60,7 +51,8 @@ fn print_hole(table: &[i32], n: usize, line: usize) -> bool {
     }
 }
 
-fn print_holes(table: &[i32], n: usize) {
+// The holes by line, and how many there are.
+fn print_holes(table: &[i32], n: usize) -> usize {
     let mut count: usize = 0;
     let mut line = 0;
     while line < n {
@@ -69,10 +61,12 @@ fn print_holes(table: &[i32], n: usize) {
             count += 1;
         }
     }
-    show::word(b"holes");
-    show::tab();
-    show::number(count as u64);
-    show::line_end();
+    count
+}
+
+fn print_count(count: usize) {
+    let fields = [count as u64];
+    show::numbers(b"holes", &fields);
 }
 
 fn print_table(table: &[i32], n: usize) {
@@ -84,7 +78,8 @@ fn print_table(table: &[i32], n: usize) {
             let last = row.state;
             print_unit(last);
             print_tools(table, n, last);
-            print_holes(table, n);
+            let count = print_holes(table, n);
+            print_count(count);
         }
         Looked::Bad => {}
     }

@@ -52,22 +52,15 @@ fn differs(old: HoleAnswer, new: HoleAnswer) -> bool
 }
 
 fn print_span(line: usize, meeting: usize) {
-    show::word(b"span");
-    show::tab();
-    show::number(line as u64);
-    show::tab();
-    show::number(meeting as u64);
-    show::line_end();
+    let fields = [line as u64, meeting as u64];
+    show::numbers(b"span", &fields);
 }
 
-// A line's hole, if it makes one, behind the sign of the table it is in.
+// A line's hole, if it makes one, behind the sign of the table it is in and a tab.
 fn print_hole(sign: &[u8], line: usize, answer: HoleAnswer) {
     if let HoleAnswer::Makes(hole) = answer {
         show::word(sign);
-        show::tab();
-        show::number(line as u64);
-        show::hole(hole);
-        show::line_end();
+        show::hole(line, hole);
     }
 }
 
@@ -76,8 +69,8 @@ fn print_move(old: &[i32], new: &[i32], n: usize, line: usize) -> bool {
     let before = query::hole(old, n, line);
     let after = query::hole(new, n, line);
     if differs(before, after) {
-        print_hole(b"-", line, before);
-        print_hole(b"+", line, after);
+        print_hole(b"-\t", line, before);
+        print_hole(b"+\t", line, after);
         return true;
     }
     false
@@ -110,14 +103,8 @@ fn print_tool(old: &[i32], new: &[i32], n: usize, tool: u32) {
     let before = diameter(old, n, tool);
     let after = diameter(new, n, tool);
     if before != after {
-        show::word(b"tool");
-        show::tab();
-        show::number(tool as u64);
-        show::tab();
-        show::number(before as u64);
-        show::tab();
-        show::number(after as u64);
-        show::line_end();
+        let fields = [tool as u64, before as u64, after as u64];
+        show::numbers(b"tool", &fields);
     }
 }
 
@@ -131,10 +118,8 @@ fn print_tools(old: &[i32], new: &[i32], n: usize) {
 }
 
 fn print_count(count: usize) {
-    show::word(b"moved");
-    show::tab();
-    show::number(count as u64);
-    show::line_end();
+    let fields = [count as u64];
+    show::numbers(b"moved", &fields);
 }
 
 fn copy(to: &mut [i32], from: &[i32]) {

@@ -25,18 +25,18 @@ use Rattle.print.proofs.Tabs.{line-tabbed, field-length, fields-length,
 
 pub nothing-put : (room : Bool) (b l : List ℕ) → room ≡ false → PutIn room b l b 0
 nothing-put true b l e = absurd (false≢true (sym e))
-nothing-put false b l e = record { bytes = refl; count = refl }
+nothing-put false b l e = record { bytes = refl; count = refl; inside = omega arith }
 
-line-put : (room : Bool) (b l b′ : List ℕ) (r : ℕ) → room ≡ true → Wrote b 0 l b′ r → PutIn room b l b′ r
-line-put true b l b′ r e w = record { bytes = w .bytes; count = omega (arith, w .end) }
-line-put false b l b′ r e w = absurd (false≢true e)
+line-put : (room : Bool) (b l b′ : List ℕ) (r : ℕ) → room ≡ true → Wrote b 0 l b′ r → length l ≤ length b → PutIn room b l b′ r
+line-put true b l b′ r e w h = record { bytes = w .bytes; count = omega (arith, w .end); inside = omega (arith, w .end) }
+line-put false b l b′ r e w h = absurd (false≢true e)
 
 pub parts-put : (room : Bool) (f : List ℕ) (gs : List (List ℕ)) {b b₁ b₂ b₃ : List ℕ} {r₁ r₂ r₃ : ℕ} → room ≡ true
     → Wrote b 0 f b₁ r₁ → Wrote b₁ r₁ (tabbed gs) b₂ r₂ → Wrote b₂ r₂ (LF ∷ []) b₃ r₃
     → length f + length (tabbed gs) < length b → PutIn room b (printedLine f gs) b₃ r₃
 parts-put room f gs {b} e w v u h =
     let k : 0 + length (f ++ (tabbed gs ++ (LF ∷ []))) ≤ length b = omega (arith, length-append f (tabbed gs ++ (LF ∷ [])), length-append (tabbed gs) (LF ∷ [])) in
-    line-put room _ _ _ _ e (rw (line-tabbed f gs) (wrote-three w v u k))
+    line-put room _ _ _ _ e (rw (line-tabbed f gs) (wrote-three w v u k)) (rw (line-tabbed f gs) (omega (arith, k)))
 
 -- ---- the room of a line of numbers
 

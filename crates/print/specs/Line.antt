@@ -2,7 +2,7 @@
 use mathlib.Core.Path.{_≡_}
 use mathlib.Core.Bool.{Bool, _&&_}
 use mathlib.Core.List.{List, [], _∷_}
-use Prim.Native.Nat.{ℕ}
+use Prim.Native.Nat.{ℕ, _≤_}
 use lib.Dec.{leb}
 use lib.ListN.{length}
 use Rattle.lists.specs.Choice.{pick}
@@ -22,6 +22,7 @@ lineRoom = 128
 pub record PutIn (room : Bool) (b l b′ : List ℕ) (r : ℕ) : Type 0 where
   pub bytes : b′ ≡ pick room (putAt b 0 l) b
   pub count : r ≡ pick room (length l) 0
+  pub inside : r ≤ length b
 
 -- a word of at most 32 bytes, and at most four numbers behind it
 unfoldable pub hasRoom : List ℕ → List ℕ → List ℕ → Bool

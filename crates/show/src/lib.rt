@@ -1,8 +1,7 @@
-// What the programs print and read: fields parted by tabs, lines ended by LF, on standard output; a file from standard input.
+// What the programs print and read: lines on standard output, each made by crate print; a file from standard input.
 ghost use lib.ListN.{length};
 ghost use Rattle.show.specs.Got.{Got, GotLine};
 use rules::Hole;
-use rules::Point;
 use rules::Refusal;
 
 /// Standard input, as much of it as the block holds, or that it can't be read.
@@ -38,64 +37,24 @@ pub fn word(text: &[u8]) {
     io::write_all(STDOUT, text);
 }
 
-pub fn tab() {
-    word(b"\t");
+/// A line of a word and at most four numbers, parted by tabs.
+pub fn numbers(word: &[u8], numbers: &[u64]) {
+    let mut block = [0u8; 128];
+    let length = print::numbers_line(&mut block, word, numbers);
+    io::write_all(STDOUT, &block[..length]);
 }
 
-pub fn line_end() {
-    word(b"\n");
-}
-
-pub fn number(n: u64) {
-    io::print_decimal(STDOUT, n);
-}
-
-pub fn signed(x: i32) {
-    if x < 0 {
-        word(b"-");
-    }
-    number(rules::distance(x, 0));
-}
-
-fn point(p: Point) {
-    tab();
-    signed(p.x);
-    tab();
-    signed(p.y);
-}
-
-/// A hole's letter: H hit, L line, C clockwise, A counter-clockwise.
-fn letter(kind: u32) {
-    match kind {
-        9 => word(b"H"),
-        12 => word(b"L"),
-        13 => word(b"C"),
-        _ => word(b"A"),
-    }
-}
-
-/// A hole's fields, each after a tab: letter, tool, start, end, radius.
-pub fn hole(h: Hole) {
-    let start = h.start;
-    let end = h.end;
-    tab();
-    letter(h.kind);
-    tab();
-    number(h.tool as u64);
-    point(start);
-    point(end);
-    tab();
-    number(h.radius as u64);
+/// A line's hole.
+pub fn hole(line: usize, hole: Hole) {
+    let mut block = [0u8; 128];
+    let length = print::hole_line(&mut block, line, hole);
+    io::write_all(STDOUT, &block[..length]);
 }
 
 /// `refused`, number and line.
 pub fn refused(refusal: Refusal, line: usize) {
-    word(b"refused");
-    tab();
-    number(refusal.number as u64);
-    tab();
-    number(line as u64);
-    line_end();
+    let fields = [refusal.number as u64, line as u64];
+    numbers(b"refused", &fields);
 }
 
 fn cannot_read() {

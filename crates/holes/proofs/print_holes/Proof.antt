@@ -5,10 +5,10 @@ use Rattle.holes.proofs.print_holes.Statement.{statement}
 use Rattle.holes.proofs.print_holes.Tie as tie
 
 abbrev Inv-loop : tie.InvT-loop
-Inv-loop table n count₀ line₀ t5 count line = (line ≤ n) × (count ≤ line)
+Inv-loop table n count₀ line₀ count line = (line ≤ n) × (count ≤ line)
 
 abbrev μ-loop : tie.MeasureT-loop
-μ-loop table n count₀ line₀ t5 count line = n - line
+μ-loop table n count₀ line₀ count line = n - line
 
 loop-holds : tie.Need-loop-holds Inv-loop μ-loop
 loop-holds c = search needs
@@ -34,21 +34,6 @@ loop-less-2 c = search needs
 loop-again-2 : tie.Need-loop-again-2 Inv-loop μ-loop
 loop-again-2 c = search needs
 
-slice-aggregate-word : tie.Need-slice-aggregate-word Inv-loop μ-loop
-slice-aggregate-word c = search needs
-
-word-requires : tie.Need-word-requires Inv-loop μ-loop
-word-requires c κs = search needs
-
-tab-requires : tie.Need-tab-requires Inv-loop μ-loop
-tab-requires c κs = search needs
-
-number-requires : tie.Need-number-requires Inv-loop μ-loop
-number-requires c κs = search needs
-
-line-end-requires : tie.Need-line-end-requires Inv-loop μ-loop
-line-end-requires c κs = search needs
-
 returns : tie.Need-returns Inv-loop μ-loop
 returns c = search needs
 
@@ -66,9 +51,4 @@ print-holes-spec =
     loop-again
     loop-less-2
     loop-again-2
-    slice-aggregate-word
-    word-requires
-    tab-requires
-    number-requires
-    line-end-requires
     returns)
