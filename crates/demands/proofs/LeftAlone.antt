@@ -1,20 +1,19 @@
 -- What reading, editing and writing leave of what is lent. An answer and what it leaves come from one verdict: on a refusal
 -- nothing is put anywhere, on success a list is put in one place, inside what is lent, and that leaves the rest.
-use mathlib.Core.Path.{_≡_, refl, sym, ap, _∙_, subst}
+use mathlib.Core.Path.{_≡_, refl, ap, _∙_, subst}
 use mathlib.Core.Bool.{Bool, true, false}
-use mathlib.Core.List.{List, [], _∷_}
+use mathlib.Core.List.{List}
 use Prim.Native.Nat.{ℕ, _+_, _-_, _*_, _≤_}
 use native.Mathlib.Omega.{arith}
 use borrow.Author.Tests.{leb-true}
 use lib.Dec.{leb}
 use lib.IntN.{ℤ}
-use lib.ListN.{length, take, drop, length-append}
+use lib.ListN.{length, take, drop}
 use Rattle.lists.specs.Choice.{pick}
 use Rattle.lists.specs.Put.{putAt}
 use Rattle.lists.proofs.Choice.{pick-all}
 use Rattle.lists.proofs.Put.{put-length, put-before, put-after}
 use Rattle.runs.specs.Machine.{Verdict, accepted, refused, onVerdict, Span}
-use Rattle.runs.proofs.Hold.{hold-length}
 use Rattle.rules.specs.declared.Command.{Command}
 use Rattle.rules.specs.declared.State.{State}
 use Rattle.rules.specs.declared.Refusal.{Refusal}
@@ -24,16 +23,17 @@ use Rattle.rules.specs.Numbers.{maxLines}
 use Rattle.rules.specs.Rows.{rowWidth, tableNumbers, entriesOf, sizesFit}
 use Rattle.rules.specs.Reading.{Rows, fileOf, hasRoom, inRoom, withRows, readAnswer, readLeaves}
 use Rattle.rules.specs.Editing.{isLine, noLineEnd, editOf, editAnswer, editLeaves}
-use Rattle.rules.specs.Writing.{lineText, textOfRows, rowsOf, inBlock, withText, writeAnswer, writeLeaves}
+use Rattle.rules.specs.Writing.{textOfRows, rowsOf, inBlock, withText, writeAnswer, writeLeaves}
 use Rattle.obeys.proofs.Files.{refused-says}
 use Rattle.table.proofs.Entries.{table-length, entries-length}
-use Rattle.writer.proofs.Lengths.{line-short}
+use Rattle.round.proofs.Files.{text-length}
 use Rattle.demands.specs.Demand1.{among, OnLine, longestLine, readRefusals, editRefusals, writeRefusals, ReadLeavesRest, EditLeavesRest, WriteLeavesRest}
 use Rattle.demands.proofs.WhichRefusals.{Refuses, faulty-of, edit-refuses-of, rows-refuses}
 use Rattle.demands.proofs.WhichLines.{Named, faulty-upto, edit-lines, rows-lines}
 use Rattle.demands.proofs.EditSpan.{SpanOf, edit-spans, edit-tests, edit-done}
 use Rattle.demands.proofs.EditTable.{sizes-say, line-says}
 use Rattle.demands.proofs.AcceptedFile.{read-done, read-writes, file-few}
+use Rattle.demands.proofs.GoodTables.{good-whole}
 use Rattle.demands.proofs.WrittenTable.{rows-good, write-done, write-writes}
 
 -- ---- reading
@@ -166,11 +166,6 @@ module _ (t : List ℤ) (n k : ℕ) (l : List ℕ) where
 
 -- ---- writing
 
-rows-short : (rs : Rows) → length (textOfRows rs) ≤ longestLine * length rs
-unfolding textOfRows
-rows-short [] = omega arith
-rows-short (r ∷ rs) = omega (arith, length-append (lineText (r .command)) (textOfRows rs), line-short (r .command), rows-short rs)
-
 InWrite : Refusal → Type 0
 InWrite e = among writeRefusals (e .number) ≡ true
 
@@ -194,8 +189,8 @@ module _ (t : List ℤ) (n : ℕ) (b : List ℕ) where
   write-inside m h =
       let d = write-done t n b m h in
       let g = rows-good t n (d .rows) (d .verdict) in
-      let c : length (d .rows) ≡ n = sym (hold-length (d .rows)) ∙ ap length (sym (g .found)) ∙ entries-length n t in
-      (omega (arith, d .counted, d .room), omega (arith, d .counted, rows-short (d .rows), c), sizes-say t n (g .fits) .few)
+      let w = good-whole t n (d .rows) g in
+      (omega (arith, d .counted, d .room), omega (arith, d .counted, text-length (d .rows) (w .rows .commands), w .count), sizes-say t n (g .fits) .few)
 
   write-beyond : (m : ℕ) → writeAnswer t n b ≡ Done m → drop m (writeLeaves t n b) ≡ drop m b
   write-beyond m h =

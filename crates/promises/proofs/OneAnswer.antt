@@ -1,154 +1,195 @@
--- Any two answers allowed by a promise are equal, for each public function: its promise, as it stands in its source, is
+-- Any two answers allowed by a promise are equal, for each public function: its contract, cited as it stands in its source, says
 -- that the answer, and what is left, is what a definition says; and two things equal to a third are equal.
-use mathlib.Core.Path.{_≡_, sym, _∙_}
-use mathlib.Core.List.{List, [], _∷_}
-use Prim.Native.Nat.{ℕ, _≤_}
-use lib.IntN.{ℤ, natAbs, _-ℤ_}
-use lib.ListN.{length, drop}
-use Rattle.lists.specs.Words.{startsWith}
-use Rattle.rules.specs.declared.Point.{Point}
-use Rattle.rules.specs.declared.Arc.{Arc}
-use Rattle.rules.specs.declared.Tools.{Tools}
-use Rattle.rules.specs.declared.State.{State}
-use Rattle.rules.specs.declared.Command.{Command}
-use Rattle.rules.specs.declared.Row.{Row}
-use Rattle.rules.specs.Numbers.{digitsOf, unsignedOf, signedOf}
-use Rattle.rules.specs.Commands.{lineOf}
-use Rattle.rules.specs.Set as D
-use Rattle.rules.specs.State as S
-use Rattle.rules.specs.Rows.{sizesFit}
-use Rattle.rules.specs.Reading.{readAnswer, readLeaves}
-use Rattle.rules.specs.Editing.{isLine, editAnswer, editLeaves}
-use Rattle.rules.specs.Asking.{holeAnswer, diameterAnswer}
-use Rattle.rules.specs.Writing.{writeAnswer, writeLeaves}
-use Rattle.number.specs.declared.Written.{Written}
-use Rattle.number.specs.Capped.{cap, runFrom, numberAt, decimalOf, coordinateRead, sizeRead}
-use Rattle.table.specs.Table.{lookAt, putRow}
-use Rattle.query.specs.Parts.{beforeAt}
-use Rattle.editor.specs.Parts.{EditIs}
-use Rattle.xnc.specs.Door.{packed, holePacked, holeLeaves}
+use mathlib.Core.Path.{_≡_, refl, sym, _∙_}
+use Rattle.reader.proofs.read.Kinds as reader-read-kinds
+use Rattle.reader.proofs.read.Reads as reader-read-reads
+use Rattle.editor.proofs.edit.Kinds as editor-edit-kinds
+use Rattle.editor.proofs.edit.Reads as editor-edit-reads
+use Rattle.writer.proofs.write.Kinds as writer-write-kinds
+use Rattle.writer.proofs.write.Reads as writer-write-reads
+use Rattle.query.proofs.sizes_fit.Kinds as query-sizes-fit-kinds
+use Rattle.query.proofs.sizes_fit.Reads as query-sizes-fit-reads
+use Rattle.query.proofs.is_line.Kinds as query-is-line-kinds
+use Rattle.query.proofs.is_line.Reads as query-is-line-reads
+use Rattle.query.proofs.state_before.Kinds as query-state-before-kinds
+use Rattle.query.proofs.state_before.Reads as query-state-before-reads
+use Rattle.query.proofs.hole.Kinds as query-hole-kinds
+use Rattle.query.proofs.hole.Reads as query-hole-reads
+use Rattle.query.proofs.diameter.Kinds as query-diameter-kinds
+use Rattle.query.proofs.diameter.Reads as query-diameter-reads
+use Rattle.table.proofs.look.Kinds as table-look-kinds
+use Rattle.table.proofs.look.Reads as table-look-reads
+use Rattle.table.proofs.put.Kinds as table-put-kinds
+use Rattle.table.proofs.put.Reads as table-put-reads
+use Rattle.line.proofs.read_line.Kinds as line-read-line-kinds
+use Rattle.line.proofs.read_line.Reads as line-read-line-reads
+use Rattle.number.proofs.stands.Kinds as number-stands-kinds
+use Rattle.number.proofs.stands.Reads as number-stands-reads
+use Rattle.number.proofs.run_at.Kinds as number-run-at-kinds
+use Rattle.number.proofs.run_at.Reads as number-run-at-reads
+use Rattle.number.proofs.unsigned.Kinds as number-unsigned-kinds
+use Rattle.number.proofs.unsigned.Reads as number-unsigned-reads
+use Rattle.number.proofs.signed.Kinds as number-signed-kinds
+use Rattle.number.proofs.signed.Reads as number-signed-reads
+use Rattle.number.proofs.coordinate.Kinds as number-coordinate-kinds
+use Rattle.number.proofs.coordinate.Reads as number-coordinate-reads
+use Rattle.number.proofs.size.Kinds as number-size-kinds
+use Rattle.number.proofs.size.Reads as number-size-reads
+use Rattle.print.proofs.numbers_line.Kinds as print-numbers-line-kinds
+use Rattle.print.proofs.numbers_line.Reads as print-numbers-line-reads
+use Rattle.print.proofs.hole_line.Kinds as print-hole-line-kinds
+use Rattle.print.proofs.hole_line.Reads as print-hole-line-reads
+use Rattle.rules.proofs.Point.same.Kinds as point-same-kinds
+use Rattle.rules.proofs.Point.same.Reads as point-same-reads
+use Rattle.rules.proofs.distance.Kinds as distance-kinds
+use Rattle.rules.proofs.distance.Reads as distance-reads
+use Rattle.rules.proofs.Arc.is_possible.Kinds as arc-is-possible-kinds
+use Rattle.rules.proofs.Arc.is_possible.Reads as arc-is-possible-reads
+use Rattle.rules.proofs.Tools.has.Kinds as tools-has-kinds
+use Rattle.rules.proofs.Tools.has.Reads as tools-has-reads
+use Rattle.rules.proofs.Tools.insert.Kinds as tools-insert-kinds
+use Rattle.rules.proofs.Tools.insert.Reads as tools-insert-reads
+use Rattle.rules.proofs.Tools.same.Kinds as tools-same-kinds
+use Rattle.rules.proofs.Tools.same.Reads as tools-same-reads
+use Rattle.rules.proofs.State.new.Kinds as state-new-kinds
+use Rattle.rules.proofs.State.new.Reads as state-new-reads
+use Rattle.rules.proofs.State.step.Kinds as state-step-kinds
+use Rattle.rules.proofs.State.step.Reads as state-step-reads
+use Rattle.rules.proofs.State.has_ended.Kinds as state-has-ended-kinds
+use Rattle.rules.proofs.State.has_ended.Reads as state-has-ended-reads
+use Rattle.rules.proofs.State.same.Kinds as state-same-kinds
+use Rattle.rules.proofs.State.same.Reads as state-same-reads
+use Rattle.xnc.proofs.xnc_read.Kinds as xnc-read-kinds
+use Rattle.xnc.proofs.xnc_read.Reads as xnc-read-reads
+use Rattle.xnc.proofs.xnc_edit.Kinds as xnc-edit-kinds
+use Rattle.xnc.proofs.xnc_edit.Reads as xnc-edit-reads
+use Rattle.xnc.proofs.xnc_hole.Kinds as xnc-hole-kinds
+use Rattle.xnc.proofs.xnc_hole.Reads as xnc-hole-reads
+use Rattle.xnc.proofs.xnc_write.Kinds as xnc-write-kinds
+use Rattle.xnc.proofs.xnc_write.Reads as xnc-write-reads
 use Rattle.promises.specs.OneAnswer.{OneAnswer, OneOutcome}
 
 -- ---- the ground
 
-one : {A : Type 0} (a : A) → OneAnswer (λ (r : A). r ≡ a)
-one a r s p q = p ∙ sym q
-
-both : {A B : Type 0} (a : A) (b : B) → OneOutcome (λ (r : A) (left : B). (r ≡ a) × (left ≡ b))
-both a b r s left left′ p q = (p .0 ∙ sym (q .0), p .1 ∙ sym (q .1))
+same : {A : Type 0} {a x y : A} → x ≡ a → y ≡ a → x ≡ y
+same p q = p ∙ sym q
 
 -- ---- crate reader
 
-pub reader-read : (file : List ℕ) (table : List ℤ) → OneOutcome (λ r left. (r ≡ readAnswer file table) × (left ≡ readLeaves file table))
-reader-read file table = both (readAnswer file table) (readLeaves file table)
+pub reader-read : OneOutcome 2 reader-read-kinds.ps reader-read-kinds.r reader-read-reads.Post (λ κs e. e .1 .0 .now)
+reader-read κs a x y e f p q = (same (p .0) (q .0), same (p .1) (q .1))
 
 -- ---- crate editor
 
-pub editor-edit : (table : List ℤ) (n line : ℕ) (text : List ℕ) → OneOutcome (λ r left. EditIs table n line text r left)
-editor-edit table n line text r s left left′ p q = (p .answer ∙ sym (q .answer), p .leaves ∙ sym (q .leaves))
+pub editor-edit : OneOutcome 2 editor-edit-kinds.ps editor-edit-kinds.r editor-edit-reads.Post (λ κs e. e .0 .now)
+editor-edit κs a x y e f p q = (same (p .answer) (q .answer), same (p .leaves) (q .leaves))
 
 -- ---- crate writer
 
-pub writer-write : (table : List ℤ) (n : ℕ) (text : List ℕ) → OneOutcome (λ r left. (r ≡ writeAnswer table n text) × (left ≡ writeLeaves table n text))
-writer-write table n text = both (writeAnswer table n text) (writeLeaves table n text)
+pub writer-write : OneOutcome 2 writer-write-kinds.ps writer-write-kinds.r writer-write-reads.Post (λ κs e. e .1 .1 .0 .now)
+writer-write κs a x y e f p q = (same (p .0) (q .0), same (p .1) (q .1))
 
 -- ---- crate query
 
-pub query-sizes-fit : (table : List ℤ) (n : ℕ) → OneAnswer (λ r. r ≡ sizesFit table n)
-query-sizes-fit table n = one (sizesFit table n)
+pub query-sizes-fit : OneAnswer 1 query-sizes-fit-kinds.ps query-sizes-fit-kinds.r query-sizes-fit-reads.Post
+query-sizes-fit κs a x y e f p q = same p q
 
-pub query-is-line : (n line : ℕ) → OneAnswer (λ r. r ≡ isLine n line)
-query-is-line n line = one (isLine n line)
+pub query-is-line : OneAnswer 0 query-is-line-kinds.ps query-is-line-kinds.r query-is-line-reads.Post
+query-is-line κs a x y e f p q = same p q
 
-pub query-state-before : (table : List ℤ) (i : ℕ) → OneAnswer (λ r. r ≡ beforeAt table i)
-query-state-before table i = one (beforeAt table i)
+pub query-state-before : OneAnswer 1 query-state-before-kinds.ps query-state-before-kinds.r query-state-before-reads.Post
+query-state-before κs a x y e f p q = same p q
 
-pub query-hole : (table : List ℤ) (n line : ℕ) → OneAnswer (λ r. r ≡ holeAnswer table n line)
-query-hole table n line = one (holeAnswer table n line)
+pub query-hole : OneAnswer 1 query-hole-kinds.ps query-hole-kinds.r query-hole-reads.Post
+query-hole κs a x y e f p q = same p q
 
-pub query-diameter : (table : List ℤ) (n tool : ℕ) → OneAnswer (λ r. r ≡ diameterAnswer table n tool)
-query-diameter table n tool = one (diameterAnswer table n tool)
-
--- ---- crate xnc
-
-pub xnc-read : (file : List ℕ) (table : List ℤ) → OneOutcome (λ r left. (r ≡ packed (readAnswer file table)) × (left ≡ readLeaves file table))
-xnc-read file table = both (packed (readAnswer file table)) (readLeaves file table)
-
-pub xnc-edit : (table : List ℤ) (n line : ℕ) (text : List ℕ)
-    → OneOutcome (λ r left. (r ≡ packed (editAnswer table n line text)) × (left ≡ editLeaves table n line text))
-xnc-edit table n line text = both (packed (editAnswer table n line text)) (editLeaves table n line text)
-
-pub xnc-hole : (table : List ℤ) (n line : ℕ) (hole : List ℤ)
-    → OneOutcome (λ r left. (r ≡ holePacked (holeAnswer table n line) hole) × (left ≡ holeLeaves (holeAnswer table n line) hole))
-xnc-hole table n line hole = both (holePacked (holeAnswer table n line) hole) (holeLeaves (holeAnswer table n line) hole)
-
-pub xnc-write : (table : List ℤ) (n : ℕ) (text : List ℕ) → OneOutcome (λ r left. (r ≡ packed (writeAnswer table n text)) × (left ≡ writeLeaves table n text))
-xnc-write table n text = both (packed (writeAnswer table n text)) (writeLeaves table n text)
+pub query-diameter : OneAnswer 1 query-diameter-kinds.ps query-diameter-kinds.r query-diameter-reads.Post
+query-diameter κs a x y e f p q = same p q
 
 -- ---- crate table
 
-pub table-look : (t : List ℤ) (i : ℕ) → OneAnswer (λ r. r ≡ lookAt t i)
-table-look t i = one (lookAt t i)
+pub table-look : OneAnswer 1 table-look-kinds.ps table-look-kinds.r table-look-reads.Post
+table-look κs a x y e f p q = same p q
 
 -- it answers nothing
-pub table-put : (t : List ℤ) (i : ℕ) (r : Row) → OneAnswer (λ left. left ≡ putRow t i r)
-table-put t i r = one (putRow t i r)
+pub table-put : OneOutcome 1 table-put-kinds.ps table-put-kinds.r table-put-reads.Post (λ κs e. e .0 .now)
+table-put κs a x y e f p q = (refl, same p q)
 
 -- ---- crate line
 
-pub line-read-line : (text : List ℕ) → OneAnswer (λ r. r ≡ lineOf text)
-line-read-line text = one (lineOf text)
+pub line-read-line : OneAnswer 1 line-read-line-kinds.ps line-read-line-kinds.r line-read-line-reads.Post
+line-read-line κs a x y e f p q = same p q
 
 -- ---- crate number
 
-pub number-stands : (s : List ℕ) (at b : ℕ) → OneAnswer (λ r. r ≡ startsWith (drop at s) (b ∷ []))
-number-stands s at b = one (startsWith (drop at s) (b ∷ []))
+pub number-stands : OneAnswer 1 number-stands-kinds.ps number-stands-kinds.r number-stands-reads.Post
+number-stands κs a x y e f p q = same p q
 
-pub number-run-at : (s : List ℕ) (at : ℕ) → OneAnswer (λ r. (r ≡ runFrom at 0 (digitsOf (drop at s))) × (r .value ≤ cap) × (at ≤ r .next))
-number-run-at s at r q p w = p .0 ∙ sym (w .0)
+pub number-run-at : OneAnswer 1 number-run-at-kinds.ps number-run-at-kinds.r number-run-at-reads.Post
+number-run-at κs a x y e f p q = same (p .0) (q .0)
 
-pub number-unsigned : (s : List ℕ) (at : ℕ) → OneAnswer (λ r. r ≡ numberAt (length s) (unsignedOf (drop at s)))
-number-unsigned s at = one (numberAt (length s) (unsignedOf (drop at s)))
+pub number-unsigned : OneAnswer 1 number-unsigned-kinds.ps number-unsigned-kinds.r number-unsigned-reads.Post
+number-unsigned κs a x y e f p q = same p q
 
-pub number-signed : (s : List ℕ) (at : ℕ) → OneAnswer (λ r. r ≡ numberAt (length s) (signedOf (drop at s)))
-number-signed s at = one (numberAt (length s) (signedOf (drop at s)))
+pub number-signed : OneAnswer 1 number-signed-kinds.ps number-signed-kinds.r number-signed-reads.Post
+number-signed κs a x y e f p q = same p q
 
-pub number-coordinate : (w : Written) → OneAnswer (λ r. r ≡ coordinateRead (decimalOf w))
-number-coordinate w = one (coordinateRead (decimalOf w))
+pub number-coordinate : OneAnswer 0 number-coordinate-kinds.ps number-coordinate-kinds.r number-coordinate-reads.Post
+number-coordinate κs a x y e f p q = same p q
 
-pub number-size : (w : Written) → OneAnswer (λ r. r ≡ sizeRead (decimalOf w))
-number-size w = one (sizeRead (decimalOf w))
+pub number-size : OneAnswer 0 number-size-kinds.ps number-size-kinds.r number-size-reads.Post
+number-size κs a x y e f p q = same p q
 
--- ---- crate rules: points, arcs, sets of tools
+-- ---- crate print
 
-pub point-same : (p q : Point) → OneAnswer (λ r. r ≡ S.samePoint p q)
-point-same p q = one (S.samePoint p q)
+pub print-numbers-line : OneOutcome 3 print-numbers-line-kinds.ps print-numbers-line-kinds.r print-numbers-line-reads.Post (λ κs e. e .0 .now)
+print-numbers-line κs a x y e f p q = (same (p .count) (q .count), same (p .bytes) (q .bytes))
 
-pub arcs-distance : (a b : ℤ) → OneAnswer (λ r. (r ≡ natAbs (a -ℤ b)) × (r ≤ 4294967295))
-arcs-distance a b r s p q = p .0 ∙ sym (q .0)
+pub print-hole-line : OneOutcome 1 print-hole-line-kinds.ps print-hole-line-kinds.r print-hole-line-reads.Post (λ κs e. e .0 .now)
+print-hole-line κs a x y e f p q = (same (p .count) (q .count), same (p .bytes) (q .bytes))
 
-pub arc-is-possible : (a : Arc) (from : Point) → OneAnswer (λ r. r ≡ S.isPossible from a)
-arc-is-possible a from = one (S.isPossible from a)
+-- ---- crate rules
 
-pub tools-has : (d : Tools) (t : ℕ) → OneAnswer (λ r. r ≡ D.has d t)
-tools-has d t = one (D.has d t)
+pub point-same : OneAnswer 0 point-same-kinds.ps point-same-kinds.r point-same-reads.Post
+point-same κs a x y e f p q = same p q
 
-pub tools-insert : (d : Tools) (t : ℕ) → OneAnswer (λ r. r ≡ D.insert d t)
-tools-insert d t = one (D.insert d t)
+pub distance : OneAnswer 0 distance-kinds.ps distance-kinds.r distance-reads.Post
+distance κs a x y e f p q = same (p .0) (q .0)
 
-pub tools-same : (d e : Tools) → OneAnswer (λ r. r ≡ S.sameTools d e)
-tools-same d e = one (S.sameTools d e)
+pub arc-is-possible : OneAnswer 0 arc-is-possible-kinds.ps arc-is-possible-kinds.r arc-is-possible-reads.Post
+arc-is-possible κs a x y e f p q = same p q
 
--- ---- crate rules: the state
+pub tools-has : OneAnswer 0 tools-has-kinds.ps tools-has-kinds.r tools-has-reads.Post
+tools-has κs a x y e f p q = same p q
 
-pub state-new : OneAnswer (λ r. r ≡ S.start)
-state-new = one S.start
+pub tools-insert : OneAnswer 0 tools-insert-kinds.ps tools-insert-kinds.r tools-insert-reads.Post
+tools-insert κs a x y e f p q = same p q
 
-pub state-step : (s : State) (c : Command) → OneAnswer (λ r. r ≡ S.step s c)
-state-step s c = one (S.step s c)
+pub tools-same : OneAnswer 0 tools-same-kinds.ps tools-same-kinds.r tools-same-reads.Post
+tools-same κs a x y e f p q = same p q
 
-pub state-has-ended : (s : State) → OneAnswer (λ r. r ≡ S.hasEnded s)
-state-has-ended s = one (S.hasEnded s)
+pub state-new : OneAnswer 0 state-new-kinds.ps state-new-kinds.r state-new-reads.Post
+state-new κs a x y e f p q = same p q
 
-pub state-same : (s q : State) → OneAnswer (λ r. r ≡ S.sameState s q)
-state-same s q = one (S.sameState s q)
+pub state-step : OneAnswer 0 state-step-kinds.ps state-step-kinds.r state-step-reads.Post
+state-step κs a x y e f p q = same p q
+
+pub state-has-ended : OneAnswer 0 state-has-ended-kinds.ps state-has-ended-kinds.r state-has-ended-reads.Post
+state-has-ended κs a x y e f p q = same p q
+
+pub state-same : OneAnswer 0 state-same-kinds.ps state-same-kinds.r state-same-reads.Post
+state-same κs a x y e f p q = same p q
+
+-- ---- crate xnc, the door
+
+pub xnc-read : OneOutcome 2 xnc-read-kinds.ps xnc-read-kinds.r xnc-read-reads.Post (λ κs e. e .1 .0 .now)
+xnc-read κs a x y e f p q = (same (p .0) (q .0), same (p .1) (q .1))
+
+pub xnc-edit : OneOutcome 2 xnc-edit-kinds.ps xnc-edit-kinds.r xnc-edit-reads.Post (λ κs e. e .0 .now)
+xnc-edit κs a x y e f p q = (same (p .0) (q .0), same (p .1) (q .1))
+
+pub xnc-hole : OneOutcome 2 xnc-hole-kinds.ps xnc-hole-kinds.r xnc-hole-reads.Post (λ κs e. e .1 .1 .1 .0 .now)
+xnc-hole κs a x y e f p q = (same (p .0) (q .0), same (p .1) (q .1))
+
+pub xnc-write : OneOutcome 2 xnc-write-kinds.ps xnc-write-kinds.r xnc-write-reads.Post (λ κs e. e .1 .1 .0 .now)
+xnc-write κs a x y e f p q = (same (p .0) (q .0), same (p .1) (q .1))

@@ -1,11 +1,19 @@
--- What it means that a promise allows one answer. A promise is a property of the answer, and of what is left of the numbers
--- or bytes lent to be changed.
+-- What it means that a contract allows one answer. A contract's `ensures`, as it stands in the source, is a claim about the
+-- arguments, the result and what is left of the parameters.
 use mathlib.Core.Path.{_≡_}
+use mathlib.Core.List.{List}
+use Prim.Native.Nat.{ℕ}
+use contract.Lifetimes.{Lfts}
+use borrow.Fn.Kinds.{PK, RK, Out, Dens, resT, endedOf}
+use denote.Triple.Clauses.{AtExit}
 
--- any two answers that are as promised are equal
-abbrev pub OneAnswer : {A : Type 0} → (A → Type 0) → Type 0
-OneAnswer {A} Promised = (r s : A) → Promised r → Promised s → r ≡ s
+-- any two results that it allows are equal
+abbrev pub OneAnswer : (n : ℕ) (ps : List (PK n)) (r : RK n) → Out n ps r → Type 0
+OneAnswer n ps r Ensures =
+    (κs : Lfts n) (a : Dens κs ps) (x y : resT r κs .Denot) (e f : AtExit (endedOf n ps r) κs) → Ensures κs a x e → Ensures κs a y f → x ≡ y
 
--- and so is what they leave
-abbrev pub OneOutcome : {A B : Type 0} → (A → B → Type 0) → Type 0
-OneOutcome {A} {B} Promised = (r s : A) (left left′ : B) → Promised r left → Promised s left′ → (r ≡ s) × (left ≡ left′)
+-- and so is what each leaves of the numbers or bytes lent to be changed
+abbrev pub OneOutcome : (n : ℕ) (ps : List (PK n)) (r : RK n) → Out n ps r → {A : Type 0} → ((κs : Lfts n) → AtExit (endedOf n ps r) κs → List A) → Type 0
+OneOutcome n ps r Ensures left =
+    (κs : Lfts n) (a : Dens κs ps) (x y : resT r κs .Denot) (e f : AtExit (endedOf n ps r) κs)
+    → Ensures κs a x e → Ensures κs a y f → (x ≡ y) × (left κs e ≡ left κs f)

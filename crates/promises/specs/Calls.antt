@@ -1,0 +1,48 @@
+-- A call, as its function's contract allows it: what is handed in and lent, the answer, and what is left of what was lent.
+use mathlib.Core.Path.{_≡_}
+use mathlib.Core.List.{List}
+use Prim.Native.Nat.{ℕ}
+use lib.IntN.{ℤ}
+use contract.Lifetimes.{Lfts}
+use borrow.Fn.Kinds.{Dens, endedOf}
+use denote.Triple.Clauses.{AtExit}
+use Rattle.rules.specs.declared.Answer.{Answer}
+use Rattle.reader.proofs.read.Kinds as read-kinds
+use Rattle.reader.proofs.read.Reads as read-reads
+use Rattle.editor.proofs.edit.Kinds as edit-kinds
+use Rattle.editor.proofs.edit.Reads as edit-reads
+use Rattle.writer.proofs.write.Kinds as write-kinds
+use Rattle.writer.proofs.write.Reads as write-reads
+
+-- read(file, table)
+pub record ReadCall (file : List ℕ) (table : List ℤ) (answer : Answer) (left : List ℤ) : Type 0 where
+  pub lifetimes : Lfts 2
+  pub given : Dens lifetimes read-kinds.ps
+  pub after : AtExit (endedOf 2 read-kinds.ps read-kinds.r) lifetimes
+  pub file-is : given .0 .now ≡ file
+  pub table-is : given .1 .0 .now ≡ table
+  pub left-is : after .1 .0 .now ≡ left
+  pub promised : read-reads.Post lifetimes given answer after
+
+-- edit(table, n, line, text)
+pub record EditCall (table : List ℤ) (n line : ℕ) (text : List ℕ) (answer : Answer) (left : List ℤ) : Type 0 where
+  pub lifetimes : Lfts 2
+  pub given : Dens lifetimes edit-kinds.ps
+  pub after : AtExit (endedOf 2 edit-kinds.ps edit-kinds.r) lifetimes
+  pub table-is : given .0 .now ≡ table
+  pub n-is : given .1 .0 ≡ n
+  pub line-is : given .1 .1 .0 ≡ line
+  pub text-is : given .1 .1 .1 .0 .now ≡ text
+  pub left-is : after .0 .now ≡ left
+  pub promised : edit-reads.Post lifetimes given answer after
+
+-- write(table, n, text)
+pub record WriteCall (table : List ℤ) (n : ℕ) (text : List ℕ) (answer : Answer) (left : List ℕ) : Type 0 where
+  pub lifetimes : Lfts 2
+  pub given : Dens lifetimes write-kinds.ps
+  pub after : AtExit (endedOf 2 write-kinds.ps write-kinds.r) lifetimes
+  pub table-is : given .0 .now ≡ table
+  pub n-is : given .1 .0 ≡ n
+  pub text-is : given .1 .1 .0 .now ≡ text
+  pub left-is : after .1 .1 .0 .now ≡ left
+  pub promised : write-reads.Post lifetimes given answer after
