@@ -1,0 +1,78 @@
+/* The library from C: reads an XNC file from standard input, tries one edit, and says what moved.
+ *
+ *   door LINE TEXT <FILE
+ *
+ * Build it with -Iinclude and libxnc.a (README.md). */
+#include "xnc.h"
+
+#include <stdio.h>
+#include <stdlib.h>
+#include <string.h>
+
+enum { MOST_BYTES = 65536, MOST_LINES = 1000, ROW = 15, HOLE = 7 };
+
+static uint32_t number(uint64_t answer) { return (uint32_t)(answer >> 32); }
+
+static uint32_t value(uint64_t answer) { return (uint32_t)answer; }
+
+static int refused(const char *what, uint64_t answer)
+{
+    printf("%s refused: number %u, line %u\n", what, (unsigned)number(answer), (unsigned)value(answer));
+    return 1;
+}
+
+static void print_move(const int32_t *hole)
+{
+    printf("%d, %d to %d, %d", (int)hole[2], (int)hole[3], (int)hole[4], (int)hole[5]);
+}
+
+int main(int argc, char **argv)
+{
+    static uint8_t file[MOST_BYTES + 1];
+    static uint8_t text[MOST_BYTES];
+    static int32_t old[MOST_LINES * ROW];
+    static int32_t edited[MOST_LINES * ROW];
+
+    if (argc != 3) {
+        fprintf(stderr, "usage: door LINE TEXT <FILE\n");
+        return 2;
+    }
+    size_t bytes = fread(file, 1, sizeof file, stdin);
+    uint64_t answer = xnc_read(file, bytes, old, MOST_LINES * ROW);
+    if (number(answer) != 0) {
+        return refused("read", answer);
+    }
+    size_t n = value(answer);
+    printf("lines %zu\n", n);
+
+    size_t line = strtoul(argv[1], NULL, 10);
+    memcpy(edited, old, sizeof old);
+    answer = xnc_edit(edited, MOST_LINES * ROW, n, line, (const uint8_t *)argv[2], strlen(argv[2]));
+    if (number(answer) != 0) {
+        return refused("edit", answer);
+    }
+    size_t meeting = value(answer);
+    printf("span %zu to %zu\n", line, meeting);
+
+    /* Nothing outside the span can have changed. */
+    for (size_t i = line; i <= meeting; i++) {
+        int32_t before[HOLE] = {0};
+        int32_t after[HOLE] = {0};
+        xnc_hole(old, MOST_LINES * ROW, n, i, before, HOLE);
+        xnc_hole(edited, MOST_LINES * ROW, n, i, after, HOLE);
+        if (memcmp(before, after, sizeof before) != 0) {
+            printf("line %zu: ", i);
+            print_move(before);
+            printf(" is now ");
+            print_move(after);
+            printf("\n");
+        }
+    }
+
+    answer = xnc_write(edited, MOST_LINES * ROW, n, text, sizeof text);
+    if (number(answer) != 0) {
+        return refused("write", answer);
+    }
+    fwrite(text, 1, value(answer), stdout);
+    return 0;
+}
