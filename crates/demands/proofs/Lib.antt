@@ -21,3 +21,4 @@ pub mod WriteBack
 pub mod WalkStops
 pub mod WriteRefused
 pub mod GoodExactly
+pub mod PutFound
