@@ -3,13 +3,14 @@
 //! ```text
 //! compare [COUNT [SEED]]
 //! compare print COUNT SEED PROGRAM [ARGUMENT ...]
+//! compare moves COUNT SEED PROGRAM [ARGUMENT ...]
 //! ```
 //!
 //! The first form makes at least COUNT comparisons of single calls, from a
 //! fixed seed unless one is given. Each compares the answer and everything
 //! lent, with numbers or bytes before and behind it. What an edit and a
 //! writing promise is held against fresh readings, in both implementations.
-//! The second form compares what a program prints for COUNT files.
+//! The other two compare what a program prints for COUNT files, or edits.
 //!
 //! It fails when a pair differs, when a promise is broken, or when a refusal
 //! that a function can give never came up.
@@ -811,39 +812,89 @@ fn printed(program: &[String], file: &[u8]) -> std::io::Result<Vec<u8>> {
     Ok(child.wait_with_output()?.stdout)
 }
 
-fn compare_print(count: u64, seed: u64, program: &[String]) -> std::io::Result<ExitCode> {
+/// A file for the program `holes`.
+fn holes_input(case: u64, random: &mut Random) -> Vec<u8> {
+    match case {
+        0 => Vec::new(),
+        1..=3 => inputs::file_of_bytes(MAX_FILE + case as usize - 2),
+        4..=6 => inputs::file_of_lines(MAX_LINES + case as usize - 5, random).bytes(),
+        7 => vec![b'\n'; 2 * MAX_FILE],
+        _ => {
+            let lines = 4 + random.below(60);
+            let file = inputs::valid_file(lines, random);
+            match random.below(3) {
+                0 => inputs::damaged(&file, random),
+                _ => file.bytes(),
+            }
+        }
+    }
+}
+
+/// A line's number, a tab, a new text and a file, for the program `moves`.
+/// Most edits are of a valid file and are accepted.
+fn moves_input(case: u64, random: &mut Random) -> Vec<u8> {
+    let lines = 4 + random.below(40);
+    let file = inputs::valid_file(lines, random);
+    let bytes = if random.below(10) == 0 { inputs::damaged(&file, random) } else { file.bytes() };
+    let mut table = vec![0; ROW * MAX_LINES];
+    let (number, n) = plain::read(&bytes, &mut table);
+    let n = if number == 0 { n as usize } else { lines };
+    let line = match random.below(20) {
+        0 => [0, n + 1, 9999, 10000][random.below(4)],
+        _ => 1 + random.below(n),
+    };
+    let text = if number == 0 && (1..=n).contains(&line) && random.below(4) != 0 {
+        model_before(&table, line).allowed(random).into_bytes()
+    } else {
+        inputs::any_command(random).into_bytes()
+    };
+    let mut input = match case {
+        0 => Vec::new(),
+        1 => b"12".to_vec(),
+        2 => b"\t;".to_vec(),
+        3 => format!("0{line}\t").into_bytes(),
+        _ => format!("{line}\t").into_bytes(),
+    };
+    input.extend_from_slice(&text);
+    if random.below(20) == 0 {
+        input.push(b'\r');
+    }
+    if case != 1 {
+        input.push(b'\n');
+        input.extend_from_slice(&bytes);
+    }
+    input
+}
+
+fn compare_print(
+    count: u64,
+    seed: u64,
+    program: &[String],
+    input: fn(u64, &mut Random) -> Vec<u8>,
+    plain_print: fn(&[u8]) -> Vec<u8>,
+) -> std::io::Result<ExitCode> {
     let mut random = Random::new(seed);
     let mut different = 0;
+    let mut accepted = 0;
     for case in 0..count {
-        let file = match case {
-            0 => Vec::new(),
-            1..=3 => inputs::file_of_bytes(MAX_FILE + case as usize - 2),
-            4..=6 => inputs::file_of_lines(MAX_LINES + case as usize - 5, &mut random).bytes(),
-            7 => vec![b'\n'; 2 * MAX_FILE],
-            _ => {
-                let lines = 4 + random.below(60);
-                let file = inputs::valid_file(lines, &mut random);
-                match random.below(3) {
-                    0 => inputs::damaged(&file, &mut random),
-                    _ => file.bytes(),
-                }
-            }
-        };
-        let (expected, found) = (plain::print(&file), printed(program, &file)?);
+        let input = input(case, &mut random);
+        let (expected, found) = (plain_print(&input), printed(program, &input)?);
+        accepted += u64::from(!expected.starts_with(b"refused"));
         if expected != found {
             different += 1;
             if different <= SHOWN {
                 println!(
-                    "DIFFERENT print: plain \"{}\", program \"{}\"\nfile \"{}\"\n",
+                    "DIFFERENT print: plain \"{}\", program \"{}\"\ninput \"{}\"\n",
                     expected.escape_ascii(),
                     found.escape_ascii(),
-                    file.escape_ascii()
+                    input.escape_ascii()
                 );
             }
         }
     }
-    println!("{count} compared, {different} different");
-    Ok(if different == 0 { ExitCode::SUCCESS } else { ExitCode::FAILURE })
+    println!("{count} print-outs compared ({accepted} of accepted input), {different} different");
+    let telling = accepted > 0 && accepted < count;
+    Ok(if different == 0 && telling { ExitCode::SUCCESS } else { ExitCode::FAILURE })
 }
 
 fn main() -> ExitCode {
@@ -852,9 +903,15 @@ fn main() -> ExitCode {
         Some(text) => text.parse().ok(),
         None => Some(otherwise),
     };
-    if arguments.first().map(String::as_str) == Some("print") {
+    type Printing = (fn(u64, &mut Random) -> Vec<u8>, fn(&[u8]) -> Vec<u8>);
+    let printing: Option<Printing> = match arguments.first().map(String::as_str) {
+        Some("print") => Some((holes_input, plain::print)),
+        Some("moves") => Some((moves_input, plain::print_moves)),
+        _ => None,
+    };
+    if let Some((input, plain_print)) = printing {
         if let (Some(count), Some(seed), true) = (number(1, 0), number(2, 0), arguments.len() > 3) {
-            return match compare_print(count, seed, &arguments[3..]) {
+            return match compare_print(count, seed, &arguments[3..], input, plain_print) {
                 Ok(code) => code,
                 Err(error) => {
                     eprintln!("{}: {error}", arguments[3]);
@@ -868,7 +925,7 @@ fn main() -> ExitCode {
         return compare(count, seed);
     }
     eprintln!(
-        "usage: compare [COUNT [SEED]]\n       compare print COUNT SEED PROGRAM [ARGUMENT ...]"
+        "usage: compare [COUNT [SEED]]\n       compare print|moves COUNT SEED PROGRAM [ARGUMENT ...]"
     );
     ExitCode::FAILURE
 }

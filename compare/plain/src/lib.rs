@@ -722,39 +722,140 @@ pub fn print(file: &[u8]) -> Vec<u8> {
     }
 }
 
-fn holes_printed(rows: &[i32]) -> Vec<u8> {
-    let mut out = Vec::new();
-    let mut diameters = [None; MAX_TOOL as usize + 1];
-    let mut holes = Vec::new();
-    let mut before = State::default();
-    let decoded = rows.chunks_exact(ROW).filter_map(decode);
-    for ((command, after), line) in decoded.zip(1..) {
-        if let Command::Declare { tool, diameter } = command {
-            diameters[tool as usize] = Some(diameter);
-        }
-        if let Some(hole) = hole_of(command, &before, &after) {
-            holes.push((line, hole));
-        }
-        before = after;
-    }
+/// What rows say of a board: each line's state and hole, and each tool's
+/// diameter.
+struct Board {
+    states: Vec<State>,
+    holes: Vec<Option<[i32; HOLE]>>,
+    diameters: [Option<i32>; MAX_TOOL as usize + 1],
+}
 
-    // Writing to a vector doesn't fail.
-    let unit = if before.unit == unit::INCH { "INCH" } else { "METRIC" };
+impl Board {
+    fn of(rows: &[i32]) -> Board {
+        let mut board = Board {
+            states: Vec::new(),
+            holes: Vec::new(),
+            diameters: [None; MAX_TOOL as usize + 1],
+        };
+        let mut before = State::default();
+        for (command, after) in rows.chunks_exact(ROW).filter_map(decode) {
+            if let Command::Declare { tool, diameter } = command {
+                board.diameters[tool as usize] = Some(diameter);
+            }
+            board.holes.push(hole_of(command, &before, &after));
+            board.states.push(after);
+            before = after;
+        }
+        board
+    }
+}
+
+// Below, writing to a vector doesn't fail.
+
+fn put_hole(out: &mut Vec<u8>, line: usize, hole: [i32; HOLE]) {
+    let [kind, tool, start_x, start_y, x, y, radius] = hole;
+    let letter = match kind {
+        9 => 'H',
+        12 => 'L',
+        13 => 'C',
+        _ => 'A',
+    };
+    let _ = writeln!(out, "{line}\t{letter}\t{tool}\t{start_x}\t{start_y}\t{x}\t{y}\t{radius}");
+}
+
+fn holes_printed(rows: &[i32]) -> Vec<u8> {
+    let board = Board::of(rows);
+    let mut out = Vec::new();
+    let unit = match board.states.last() {
+        Some(state) if state.unit == unit::INCH => "INCH",
+        _ => "METRIC",
+    };
     let _ = writeln!(out, "unit\t{unit}");
-    for (tool, diameter) in diameters.iter().enumerate() {
+    for (tool, diameter) in board.diameters.iter().enumerate() {
         if let Some(diameter) = diameter {
             let _ = writeln!(out, "tool\t{tool}\t{diameter}");
         }
     }
-    for &(line, [kind, tool, start_x, start_y, x, y, radius]) in &holes {
-        let letter = match kind {
-            9 => 'H',
-            12 => 'L',
-            13 => 'C',
-            _ => 'A',
-        };
-        let _ = writeln!(out, "{line}\t{letter}\t{tool}\t{start_x}\t{start_y}\t{x}\t{y}\t{radius}");
+    let mut count = 0;
+    for (&hole, line) in board.holes.iter().zip(1..) {
+        if let Some(hole) = hole {
+            put_hole(&mut out, line, hole);
+            count += 1;
+        }
     }
-    let _ = writeln!(out, "holes\t{}", holes.len());
+    let _ = writeln!(out, "holes\t{count}");
+    out
+}
+
+/// What the program `moves` prints: its input's first line has a line's number,
+/// a tab and the new text, and the file follows. No edit is used: the file and
+/// the edited file are both read.
+pub fn print_moves(input: &[u8]) -> Vec<u8> {
+    let (first, file) = match input.iter().position(|&byte| byte == b'\n') {
+        Some(end) => (&input[..end], &input[end + 1..]),
+        None => (input, &input[input.len()..]),
+    };
+    match moves_printed(first.strip_suffix(b"\r").unwrap_or(first), file) {
+        Ok(out) => out,
+        Err((number, line)) => format!("refused\t{number}\t{line}\n").into_bytes(),
+    }
+}
+
+fn moves_printed(first: &[u8], file: &[u8]) -> Result<Vec<u8>, Refusal> {
+    let old = Board::of(&rows_of(file)?);
+    let lines = old.states.len();
+    let (line, text) = asked(first)
+        .filter(|(line, _)| (1..=lines).contains(line))
+        .ok_or((refuse::LINE_NUMBER, 0))?;
+    need(!text.contains(&b'\r'), (refuse::LINE_END, 0))?;
+    let new = Board::of(&rows_of(&with_line(file, line, text))?);
+
+    let agree = |line: usize| old.states[line - 1] == new.states[line - 1];
+    let meeting = (line..=lines).find(|&line| agree(line)).unwrap_or(lines);
+    let mut out = Vec::new();
+    let _ = writeln!(out, "span\t{line}\t{meeting}");
+    let mut moved = 0;
+    for line in line..=meeting {
+        let (before, after) = (old.holes[line - 1], new.holes[line - 1]);
+        if before != after {
+            moved += 1;
+            for (sign, hole) in [("-\t", before), ("+\t", after)] {
+                if let Some(hole) = hole {
+                    out.extend_from_slice(sign.as_bytes());
+                    put_hole(&mut out, line, hole);
+                }
+            }
+        }
+    }
+    for (tool, (before, after)) in old.diameters.iter().zip(&new.diameters).enumerate() {
+        if before != after {
+            let (before, after) = (before.unwrap_or(0), after.unwrap_or(0));
+            let _ = writeln!(out, "tool\t{tool}\t{before}\t{after}");
+        }
+    }
+    let _ = writeln!(out, "moved\t{moved}");
+    Ok(out)
+}
+
+/// One to four digits and a tab, and the text behind them.
+fn asked(first: &[u8]) -> Option<(usize, &[u8])> {
+    let tab = first.iter().position(|&byte| byte == b'\t')?;
+    let digits = std::str::from_utf8(&first[..tab]).ok()?;
+    let written =
+        (1..=4).contains(&digits.len()) && digits.bytes().all(|byte| byte.is_ascii_digit());
+    written.then(|| digits.parse().ok()).flatten().map(|line| (line, &first[tab + 1..]))
+}
+
+/// `file` with `text` in the place of line `line`, whose end is kept.
+fn with_line(file: &[u8], line: usize, text: &[u8]) -> Vec<u8> {
+    let mut out = Vec::with_capacity(file.len() + text.len());
+    for (old, number) in file.split_inclusive(|&byte| byte == b'\n').zip(1..) {
+        if number == line {
+            out.extend_from_slice(text);
+            out.extend_from_slice(if old.ends_with(b"\r\n") { b"\r\n" } else { b"\n" });
+        } else {
+            out.extend_from_slice(old);
+        }
+    }
     out
 }
