@@ -18,11 +18,11 @@ enum-known-got c = search needs
 array-share-prefix-file : tie.Need-array-share-prefix-file
 array-share-prefix-file c = omega (arith, got-within _ _ (c .before .got .given .1) (c .before .before .before .before .read-input .ensures))
 
-slice-aggregate-report : tie.Need-slice-aggregate-report
-slice-aggregate-report c = simp length-take (omega (arith, got-within _ _ (c .before .before .got .given .1) (c .before .before .before .before .before .read-input .ensures)))
+slice-aggregate-print-report : tie.Need-slice-aggregate-print-report
+slice-aggregate-print-report c = simp length-take (omega (arith, got-within _ _ (c .before .before .got .given .1) (c .before .before .before .before .before .read-input .ensures)))
 
-report-requires : tie.Need-report-requires
-report-requires c κs = search needs
+print-report-requires : tie.Need-print-report-requires
+print-report-requires c κs = search needs
 
 enum-told : tie.Need-enum-told
 enum-told c = search needs
@@ -41,8 +41,8 @@ main-spec =
     read-input-requires
     enum-known-got
     array-share-prefix-file
-    slice-aggregate-report
-    report-requires
+    slice-aggregate-print-report
+    print-report-requires
     enum-told
     returns
     returns-2)

@@ -1,0 +1,52 @@
+-- One law for each answer to the question for the hole.
+use Rattle.report.proofs.Puts.{line-nothing, line-refused, line-makes}
+use borrow.Author.Needs.{needs}
+use Rattle.report.proofs.parts.put_line.Statement.{statement}
+use Rattle.report.proofs.parts.put_line.Tie as tie
+
+hole-requires : tie.Need-hole-requires
+hole-requires c κs = search needs
+
+enum-known-hole : tie.Need-enum-known-hole
+enum-known-hole c = search needs
+
+put-hole-requires : tie.Need-put-hole-requires
+put-hole-requires c κs = search needs
+
+enum-told : tie.Need-enum-told
+enum-told c = search needs
+
+enum-told-2 : tie.Need-enum-told-2
+enum-told-2 c = search needs
+
+same-length : tie.Need-same-length
+same-length c = search needs
+
+returns : tie.Need-returns
+returns c =
+    let s = c .before .before .before .before .before .before .before .before .before in
+    line-makes (s .args .table .now) (s .args .n) (s .args .line) (c .before .before .before .before .before .before .before .hole .ensures) (s .args .text .now) (s .args .at) _ (c .before .before .before .before .before .hole2 .given .1) _ _ (c .before .before .put-hole .ensures)
+
+returns-2 : tie.Need-returns-2
+returns-2 c =
+    let s = c .before .before .before .before in
+    line-nothing (s .args .table .now) (s .args .n) (s .args .line) (c .before .before .hole .ensures) (s .args .text .now) (s .args .at) (c .enum-told .given .1)
+
+returns-3 : tie.Need-returns-3
+returns-3 c =
+    let s = c .before .before .before .before in
+    line-refused (s .args .table .now) (s .args .n) (s .args .line) (c .before .before .hole .ensures) (s .args .text .now) (s .args .at) _ _ (c .enum-told2 .given .1)
+
+pub put-line-spec : {M : Type 1} → statement M
+put-line-spec =
+    tie.close
+    (tie.spec
+    hole-requires
+    enum-known-hole
+    put-hole-requires
+    enum-told
+    enum-told-2
+    same-length
+    returns
+    returns-2
+    returns-3)
