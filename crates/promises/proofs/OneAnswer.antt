@@ -39,6 +39,8 @@ use Rattle.print.proofs.numbers_line.Kinds as print-numbers-line-kinds
 use Rattle.print.proofs.numbers_line.Reads as print-numbers-line-reads
 use Rattle.print.proofs.hole_line.Kinds as print-hole-line-kinds
 use Rattle.print.proofs.hole_line.Reads as print-hole-line-reads
+use Rattle.report.proofs.holes.Kinds as report-holes-kinds
+use Rattle.report.proofs.holes.Reads as report-holes-reads
 use Rattle.rules.proofs.Point.same.Kinds as point-same-kinds
 use Rattle.rules.proofs.Point.same.Reads as point-same-reads
 use Rattle.rules.proofs.distance.Kinds as distance-kinds
@@ -147,6 +149,14 @@ print-numbers-line κs a x y e f p q = (same (p .count) (q .count), same (p .byt
 
 pub print-hole-line : OneOutcome 1 print-hole-line-kinds.ps print-hole-line-kinds.r print-hole-line-reads.Post (λ κs e. e .0 .now)
 print-hole-line κs a x y e f p q = (same (p .count) (q .count), same (p .bytes) (q .bytes))
+
+-- ---- crate report: the text, and the table
+
+pub report-holes : OneOutcome 3 report-holes-kinds.ps report-holes-kinds.r report-holes-reads.Post (λ κs e. e .1 .1 .0 .now)
+report-holes κs a x y e f p q = (same (p .count) (q .count), same (p .bytes) (q .bytes))
+
+pub report-holes-table : OneOutcome 3 report-holes-kinds.ps report-holes-kinds.r report-holes-reads.Post (λ κs e. e .1 .0 .now)
+report-holes-table κs a x y e f p q = (same (p .count) (q .count), same (p .numbers) (q .numbers))
 
 -- ---- crate rules
 
