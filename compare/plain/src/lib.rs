@@ -338,70 +338,95 @@ impl State {
         let mut next = *self;
         match command {
             Command::Comment => need(self.phase != phase::ENDED, refuse::PHASE)?,
-            Command::Start => {
-                need(self.phase == phase::BEFORE, refuse::PHASE)?;
-                next.phase = phase::NO_UNIT;
-            }
-            Command::Metric | Command::Inch => {
-                need(self.phase == phase::NO_UNIT, refuse::PHASE)?;
-                next.phase = phase::HEADER;
-                next.unit = match command {
-                    Command::Metric => unit::METRIC,
-                    _ => unit::INCH,
-                };
-            }
-            Command::Declare { tool, .. } => {
-                need(self.phase == phase::HEADER, refuse::PHASE)?;
-                need(!self.has(tool), refuse::DECLARED)?;
-                next.declared[(tool / WORD_BITS) as usize] |= 1 << (tool % WORD_BITS);
-            }
-            Command::EndHeader => {
-                need(self.phase == phase::HEADER, refuse::PHASE)?;
-                next.phase = phase::BODY;
-            }
-            Command::Drill => {
-                self.need_body(self.motion != motion::DOWN)?;
-                next.motion = motion::DRILL;
-                (next.x, next.y) = (0, 0);
-            }
-            Command::Move { x, y } => {
-                self.need_body(self.motion != motion::DOWN)?;
-                next.motion = motion::UP;
-                (next.x, next.y) = (x, y);
-            }
-            Command::Select { tool } => {
-                self.need_body(self.motion != motion::DOWN)?;
-                need(self.has(tool), refuse::NOT_DECLARED)?;
-                next.tool = tool;
-            }
-            Command::Hit { .. } => {
-                self.need_body(self.motion == motion::DRILL)?;
-                need(self.tool != 0, refuse::NO_TOOL)?;
-            }
-            Command::Down => {
-                self.need_body(self.motion == motion::UP)?;
-                need(self.tool != 0, refuse::NO_TOOL)?;
-                next.motion = motion::DOWN;
-            }
-            Command::Up => {
-                self.need_body(self.motion == motion::DOWN)?;
-                next.motion = motion::UP;
-            }
-            Command::Line { x, y } => {
-                self.need_body(self.motion == motion::DOWN)?;
-                (next.x, next.y) = (x, y);
-            }
+            Command::Start => next.go_on(phase::BEFORE, phase::NO_UNIT)?,
+            Command::Metric => next.set_unit(unit::METRIC)?,
+            Command::Inch => next.set_unit(unit::INCH)?,
+            Command::Declare { tool, .. } => next.declare(tool)?,
+            Command::EndHeader => next.go_on(phase::HEADER, phase::BODY)?,
+            Command::Drill => next.enter(motion::DRILL, 0, 0)?,
+            Command::Move { x, y } => next.enter(motion::UP, x, y)?,
+            Command::Select { tool } => next.select(tool)?,
+            Command::Hit { .. } => next.need_tool(motion::DRILL)?,
+            Command::Down => next.put_down()?,
+            Command::Up => next.lift()?,
+            Command::Line { x, y } => next.line_to(x, y)?,
             Command::Clockwise { x, y, radius } | Command::Counter { x, y, radius } => {
-                self.need_body(self.motion == motion::DOWN)?;
-                need(self.can_arc(x, y, radius), refuse::ARC)?;
-                (next.x, next.y) = (x, y);
+                next.arc_to(x, y, radius)?
             }
-            Command::End => {
-                self.need_body(self.motion != motion::DOWN)?;
-                next.phase = phase::ENDED;
-            }
+            Command::End => next.end()?,
         }
         Ok(next)
+    }
+
+    fn go_on(&mut self, from: i32, to: i32) -> Result<(), u32> {
+        need(self.phase == from, refuse::PHASE)?;
+        self.phase = to;
+        Ok(())
+    }
+
+    fn set_unit(&mut self, unit: i32) -> Result<(), u32> {
+        self.go_on(phase::NO_UNIT, phase::HEADER)?;
+        self.unit = unit;
+        Ok(())
+    }
+
+    fn declare(&mut self, tool: i32) -> Result<(), u32> {
+        need(self.phase == phase::HEADER, refuse::PHASE)?;
+        need(!self.has(tool), refuse::DECLARED)?;
+        self.declared[(tool / WORD_BITS) as usize] |= 1 << (tool % WORD_BITS);
+        Ok(())
+    }
+
+    /// Drill mode, or rout mode with the tool up.
+    fn enter(&mut self, motion: i32, x: i32, y: i32) -> Result<(), u32> {
+        self.need_body(self.motion != motion::DOWN)?;
+        self.motion = motion;
+        (self.x, self.y) = (x, y);
+        Ok(())
+    }
+
+    fn select(&mut self, tool: i32) -> Result<(), u32> {
+        self.need_body(self.motion != motion::DOWN)?;
+        need(self.has(tool), refuse::NOT_DECLARED)?;
+        self.tool = tool;
+        Ok(())
+    }
+
+    fn put_down(&mut self) -> Result<(), u32> {
+        self.need_tool(motion::UP)?;
+        self.motion = motion::DOWN;
+        Ok(())
+    }
+
+    fn lift(&mut self) -> Result<(), u32> {
+        self.need_body(self.motion == motion::DOWN)?;
+        self.motion = motion::UP;
+        Ok(())
+    }
+
+    fn line_to(&mut self, x: i32, y: i32) -> Result<(), u32> {
+        self.need_body(self.motion == motion::DOWN)?;
+        (self.x, self.y) = (x, y);
+        Ok(())
+    }
+
+    fn arc_to(&mut self, x: i32, y: i32, radius: i32) -> Result<(), u32> {
+        self.need_body(self.motion == motion::DOWN)?;
+        need(self.can_arc(x, y, radius), refuse::ARC)?;
+        (self.x, self.y) = (x, y);
+        Ok(())
+    }
+
+    fn end(&mut self) -> Result<(), u32> {
+        self.need_body(self.motion != motion::DOWN)?;
+        self.phase = phase::ENDED;
+        Ok(())
+    }
+
+    /// In a motion, with a tool selected.
+    fn need_tool(&self, motion: i32) -> Result<(), u32> {
+        self.need_body(self.motion == motion)?;
+        need(self.tool != 0, refuse::NO_TOOL)
     }
 
     fn need_body(&self, motion_fits: bool) -> Result<(), u32> {

@@ -1,15 +1,15 @@
--- Demand 1. Which refusals there are is in WhichRefusals and WhichLines, what is left of what was lent in LeftAlone.
-use mathlib.Core.Path.{subst}
-use Rattle.demands.specs.Demand1.{Demand1}
-use Rattle.demands.proofs.WhichRefusals.{hole-refused, diameter-refused}
-use Rattle.demands.proofs.WhichLines.{HoleNamed, hole-lines, DiameterNamed, diameter-lines}
-use Rattle.demands.proofs.LeftAlone.{read-rest, edit-rest, write-rest}
+-- Demand 1. Which refusals come and at which lines is one walk (crate answers, Refused); what is left of what was lent is in LeftAlone.
+use mathlib.Core.Path.{refl, subst}
+use Rattle.answers.proofs.Refused.{HoleTold, DiameterTold, hole-told, diameter-of-told}
+use Rattle.demands.specs.Demand1.{holeRefusals, diameterRefusals, Demand1}
+use Rattle.demands.proofs.LeftAlone.{TableRefusal, at-zero, rows-named, read-rest, edit-rest, write-rest}
 
 pub demand-1 : Demand1
 demand-1 = record {
   read = read-rest;
   edit = edit-rest;
   write = write-rest;
-  hole = λ t n k e i h. (hole-refused t n k e i h, subst (HoleNamed n) h (hole-lines t n k));
-  diameter = λ t n tool e i h. (diameter-refused t n tool e i h, subst (DiameterNamed n) h (diameter-lines t n tool));
+  hole = λ t n k e i h. subst (HoleTold (TableRefusal holeRefusals n)) h (hole-told (TableRefusal holeRefusals n) t n (refl, at-zero n) (rows-named holeRefusals n refl) k (refl, at-zero n));
+  diameter = λ t n tool e i h. subst (DiameterTold (TableRefusal diameterRefusals n)) h
+      (diameter-of-told (TableRefusal diameterRefusals n) t n (refl, at-zero n) (rows-named diameterRefusals n refl) tool (refl, at-zero n) (refl, at-zero n));
 }

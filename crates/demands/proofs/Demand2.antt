@@ -1,15 +1,13 @@
 -- Demand 2, reading. A file is accepted exactly where it obeys and refused exactly where it is faulty (crate obeys); what
 -- is left here is the room, and that rows written into numbers are found there again.
 use mathlib.Core.Path.{_≡_, refl, sym, ap, _∙_, subst₂}
-use mathlib.Core.Bool.{Bool, true, false, false≢true}
+use mathlib.Core.Bool.{Bool, true, false, false≢true, cond}
 use mathlib.Core.List.{List}
-use Prim.Native.Nat.{ℕ, _+_, _*_, _/_, _≤_}
+use Prim.Native.Nat.{ℕ, _+_, _*_, _≤_}
 use native.Mathlib.Omega.{arith}
-use borrow.Author.Tests.{leb-false}
 use lib.Dec.{eqb}
 use lib.IntN.{ℤ}
 use lib.ListN.{length, drop}
-use Rattle.lists.specs.Choice.{pick}
 use Rattle.lists.specs.Put.{putAt}
 use Rattle.runs.specs.Machine.{Verdict, accepted, refused, onVerdict}
 use Rattle.rules.specs.declared.Refusal.{Refusal}
@@ -18,22 +16,14 @@ use Rattle.rules.specs.Refusals.{noRoom}
 use Rattle.rules.specs.Rows.{rowWidth, tableNumbers, Good}
 use Rattle.rules.specs.Reading.{Rows, fileOf, hasRoom, inRoom, readAnswer, readLeaves}
 use Rattle.rules.specs.Obeys.{ReadingOf, Obeys}
-use Rattle.rules.specs.Holes.{holeOf}
-use Rattle.rules.specs.Asking.{holeAnswer}
+use Rattle.laws.proofs.Sizes.{no-room-says}
 use Rattle.obeys.specs.Faults.{Faulty}
 use Rattle.obeys.proofs.Files.{file-iff, one-reading, refused-says}
-use Rattle.demands.specs.Demand2.{rowOf, stateBefore, HoldsReading, ReadRefused, faulty, short, ReadsRight, Demand2}
-use Rattle.demands.proofs.WhichRefusals.{faulty-of}
-use Rattle.demands.proofs.EditTable.{line-is}
-use Rattle.demands.proofs.SameHoles.{hole-at}
-use Rattle.demands.proofs.AcceptedFile.{file-few, read-done, read-accepts, read-writes, read-short, read-refuses}
-use Rattle.demands.proofs.GoodTables.{file-table}
-
--- the hole of line k in a good table
-good-hole : (t : List ℤ) (n : ℕ) (rs : Rows) → Good t n rs → n ≡ length rs → (k : ℕ) → 1 ≤ k → k ≤ n
-    → holeAnswer t n k ≡ holeOf (stateBefore rs k .at) (rowOf rs k .command) (rowOf rs k .state)
-unfolding holeAnswer
-good-hole t n rs g c k a b = rw (g .fits, line-is n k a b, g .found) (hole-at rs k a (omega arith))
+use Rattle.answers.proofs.Refused.{faulty-told}
+use Rattle.answers.proofs.LineHoles.{good-hole}
+use Rattle.answers.proofs.AcceptedFile.{file-few, read-done, read-accepts, read-writes, read-short, read-refuses}
+use Rattle.answers.proofs.GoodTables.{file-table}
+use Rattle.demands.specs.Demand2.{HoldsReading, ReadRefused, faulty, short, ReadsRight, Demand2}
 
 module _ (bs : List ℕ) (t : List ℤ) where
   read-of : (n : ℕ) → readAnswer bs t ≡ Done n → Obeys bs
@@ -52,13 +42,12 @@ module _ (bs : List ℕ) (t : List ℤ) where
   -- ---- refusals
 
   short-room : (rs : Rows) → fileOf bs ≡ accepted rs → (e : Refusal) (i : ℕ) (b : Bool) → hasRoom t (length rs) ≡ b
-      → pick b (Done (length rs)) (Refused noRoom 0) ≡ Refused e i → ReadRefused bs t e i
-  unfolding hasRoom
+      → cond b (Done (length rs)) (Refused noRoom 0) ≡ Refused e i → ReadRefused bs t e i
   short-room rs w e i true f h = absurd (let z : _≡_ {A = ℕ} 0 1 = cc in omega arith)
   short-room rs w e i false f h =
       let p : noRoom ≡ e = cc in
       let q : 0 ≡ i = cc in
-      subst₂ (ReadRefused bs t) p q (short (file-iff bs rs .0 w) (omega (arith, leb-false (length rs) (length t / 15) f)))
+      subst₂ (ReadRefused bs t) p q (short (file-iff bs rs .0 w) (no-room-says t (length rs) f))
 
   why : (e : Refusal) (i : ℕ) (v : Verdict Rows Refusal) → fileOf bs ≡ v → onVerdict v Refused (inRoom t) ≡ Refused e i → ReadRefused bs t e i
   why e i (accepted rs) w h = short-room rs w e i (hasRoom t (length rs)) refl h
@@ -73,9 +62,14 @@ module _ (bs : List ℕ) (t : List ℤ) where
 
   no-fault : (i : ℕ) → Faulty bs noRoom i → ⊥
   no-fault i f =
-      false≢true (sym (faulty-of (λ e. eqb (e .number) 15 ≡ false)
-      (record { phase = refl; motion = refl; again = refl; undeclared = refl; unselected = refl; arc = refl })
-      (record { long = refl; byte = refl; form = refl; range = refl }) refl refl refl refl f))
+      false≢true (sym (faulty-told (λ e _. eqb (e .number) (noRoom .number) ≡ false) refl
+      (λ j n. record {
+        line = record { long = refl; byte = refl; form = refl; range = refl };
+        step = record { phase = refl; motion = refl; again = refl; undeclared = refl; unselected = refl; arc = refl };
+        many = refl;
+        unended = refl;
+        short = refl;
+      }) f))
 
   accepts : (rs : Rows) → ReadingOf bs rs → rowWidth * length rs ≤ length t → readAnswer bs t ≡ Done (length rs)
   accepts rs w h = read-accepts bs t rs (file-iff bs rs .1 w) h

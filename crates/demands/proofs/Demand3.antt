@@ -15,13 +15,13 @@ use Rattle.rules.specs.declared.Refusal.{Refusal}
 use Rattle.rules.specs.declared.Answer.{Answer}
 use Rattle.rules.specs.declared.Answer.the-variants.{Done, Refused}
 use Rattle.rules.specs.Numbers.{maxFile}
-use Rattle.rules.specs.Rows.{tableNumbers}
+use Rattle.rules.specs.Rows.{rowWidth, tableNumbers}
 use Rattle.rules.specs.Reading.{Rows, fileOf, readAnswer, readLeaves}
 use Rattle.rules.specs.Editing.{noLineEnd, editRows, editAnswer, editLeaves}
-use Rattle.table.proofs.Entries.{table-length}
+use Rattle.laws.proofs.Entries.{table-length}
 use Rattle.demands.specs.EditedFile.{LineOf, edited}
 use Rattle.demands.specs.Demand3.{SameVerdict, SpanIs, AsReadAfresh}
-use Rattle.demands.proofs.AcceptedFile.{read-done, file-run, file-of, file-few, file-ok, read-accepts, read-writes, read-refuses}
+use Rattle.answers.proofs.AcceptedFile.{read-done, file-run, file-of, file-few, file-ok, read-accepts, read-writes, read-refuses}
 use Rattle.demands.proofs.EditRows.{edit-agreement}
 use Rattle.demands.proofs.EditIsReading.{withSpan, edit-is-reading, line-from, line-upto}
 use Rattle.demands.proofs.EditTable.{table-again, edit-refuses, edit-accepts, edit-writes, new-length, same-outside}
@@ -57,7 +57,7 @@ module _ {bs : List ℕ} {k : ℕ} (w : LineOf bs k) (rs : Rows) (read : fileOf 
       let f : fileOf (edited w l) ≡ accepted new = fresh ∙ ap (withSpan rs k) h in
       let n : length new ≡ length rs
       = new-length rs rest (file-ok bs rs read) (file-few bs rs read) k from upto l hl s h in
-      let room : 15 * length new ≤ length (tableNumbers rs ++ rest) = omega (arith, n, table-length rs, length-append (tableNumbers rs) rest) in (
+      let room : rowWidth * length new ≤ length (tableNumbers rs ++ rest) = omega (arith, n, table-length rs, length-append (tableNumbers rs) rest) in (
         read-accepts (edited w l) (tableNumbers rs ++ rest) new f room ∙ ap Done n,
         sym (read-writes (edited w l) (tableNumbers rs ++ rest) new f room ∙ table-again rs new rest n),
         (

@@ -5,27 +5,29 @@ use mathlib.Core.Bool.{true}
 use mathlib.Core.List.{List, _∷_, _++_}
 use Prim.Native.Nat.{ℕ, _+_, _-_, _≤_}
 use native.Mathlib.Omega.{arith}
+use borrow.Author.Tests.{le-leb}
 use lib.ListN.{length, length-append}
 use Rattle.lists.specs.Put.{putAt}
-use Rattle.runs.specs.Machine.{Out, yields, stops, onOut, Verdict, accepted, refused, allHold, Span, lastOf, run}
+use Rattle.runs.specs.Machine.{Out, yields, stops, onOut, Verdict, accepted, refused, allHold, Span, lastOf}
 use Rattle.runs.proofs.Append.{befores, Accepts, run-reads}
-use Rattle.runs.proofs.Agree.{reads-length}
+use Rattle.runs.proofs.Chains.{chain-length}
 use Rattle.runs.proofs.Rerun.{told}
 use Rattle.runs.proofs.Edit.{Around, reads-around, last-append, edit-run, edit-unread, splice-put}
 use Rattle.rules.specs.declared.Command.{Command}
 use Rattle.rules.specs.declared.State.{State}
 use Rattle.rules.specs.declared.Refusal.{Refusal}
 use Rattle.rules.specs.Refusals.{badTable, endsTooSoon}
+use Rattle.rules.specs.Numbers.{maxLines}
 use Rattle.rules.specs.Lines.{Line, linesOf}
 use Rattle.rules.specs.Commands.{lineOf}
 use Rattle.rules.specs.State.{start, taken, hasEnded, sameState}
-use Rattle.rules.specs.Reading.{sayOut, commandIn, Rows, runOf}
+use Rattle.rules.specs.Reading.{sayOut, answerIn, commandIn, Rows, runFrom, runOf}
 use Rattle.rules.specs.Editing.{noLineEnd, editRows}
 use Rattle.rules.proofs.Same.{same-state-iff}
+use Rattle.laws.proofs.Lines.{lineWith}
 use Rattle.obeys.proofs.Split.{yields-line}
 use Rattle.demands.specs.EditedFile.{LineOf, edited}
-use Rattle.demands.proofs.InRange.{read-text}
-use Rattle.demands.proofs.EditedLines.{lineWith, lines-old, lines-edited, text-new}
+use Rattle.demands.proofs.EditedLines.{lines-old, lines-edited, text-new}
 use Rattle.demands.proofs.EditRows.{rerunWith, edit-rows, rerun-redone}
 
 -- what an edit of line k says of all the rows
@@ -53,12 +55,15 @@ module _ {bs : List ℕ} {k : ℕ} (w : LineOf bs k) (rs : Rows) (h : runOf (lin
 
   by-rows : k ≡ length (rows .first) + 1
   unfolding xs
-  by-rows = omega (arith, w .number, reads-length commandIn taken (rows .reads-first))
+  by-rows = omega (arith, w .number, chain-length (rows .reads-first))
 
   new-line : commandIn (0 + length xs + 1) (lineWith l (w .ends)) ≡ sayOut (lineOf l)
+  unfolding commandIn answerIn
   new-line =
-      read-text (0 + length xs + 1) (lineWith l (w .ends)) l
-      (yields-line (0 + length xs + 1) (lineWith (w .line) (w .ends)) (rows .here .command) (rows .reads-here) .counted) refl (text-new l (w .ends) hl)
+      rw (
+        le-leb (0 + length xs + 1) maxLines (yields-line (0 + length xs + 1) (lineWith (w .line) (w .ends)) (rows .here .command) (rows .reads-here) .counted),
+        text-new l (w .ends) hl,
+      )
 
   ends : hasEnded (lastOf (rows .here .state) (rows .rest)) ≡ true
   unfolding lastOf
@@ -76,14 +81,14 @@ module _ {bs : List ℕ} {k : ℕ} (w : LineOf bs k) (rs : Rows) (h : runOf (lin
       ∙ ap₂ (λ (z : Rows) (j : ℕ). putAt z j (s .rows)) (sym (rows .parts)) n)
 
   fresh-said : (x : Out Command Refusal) → sayOut (lineOf l) ≡ x
-      → run commandIn taken hasEnded endsTooSoon start (xs ++ (lineWith l (w .ends) ∷ linesOf (w .after))) 0
+      → runFrom start (xs ++ (lineWith l (w .ends) ∷ linesOf (w .after))) 0
       ≡ withSpan rs k (onOut x (λ a. refused a k) (rerunWith (rows .first) (rows .here) (rows .rest) k by-rows l))
   fresh-said (stops a) u =
       edit-unread commandIn taken sameState hasEnded endsTooSoon badTable (λ a b. same-state-iff a b .0) start xs (linesOf (w .after)) 0
       (rows .first) (rows .rest) (rows .here .state) (rows .reads-first) (rows .reads-rest) ends (lineWith l (w .ends)) a (new-line ∙ u)
       ∙ ap (refused a) by-lines
   fresh-said (yields c) u =
-      let n : 0 + length xs ≡ length (rows .first) = omega (arith, reads-length commandIn taken (rows .reads-first)) in
+      let n : 0 + length xs ≡ length (rows .first) = omega (arith, chain-length (rows .reads-first)) in
       edit-run commandIn taken sameState hasEnded endsTooSoon badTable (λ a b. same-state-iff a b .0) start xs (linesOf (w .after)) 0
       (rows .first) (rows .rest) (rows .here .state) (rows .reads-first) (rows .reads-rest) ends (lineWith l (w .ends)) c (new-line ∙ u)
       ∙ rw n (span-rows c (rerunWith (rows .first) (rows .here) (rows .rest) k by-rows l c) refl)
@@ -91,7 +96,7 @@ module _ {bs : List ℕ} {k : ℕ} (w : LineOf bs k) (rs : Rows) (h : runOf (lin
   pub edit-is-reading : runOf (linesOf (edited w l)) ≡ withSpan rs k (editRows (allHold rs) k l)
   unfolding runOf xs
   edit-is-reading =
-      ap (λ (z : List Line). run commandIn taken hasEnded endsTooSoon start z 0) (lines-edited w l hl)
+      ap (λ (z : List Line). runFrom start z 0) (lines-edited w l hl)
       ∙ fresh-said (sayOut (lineOf l)) refl
       ∙ ap (withSpan rs k) (sym (edit-rows (rows .first) (rows .here) (rows .rest) k by-rows l) ∙ ap (λ (z : Rows). editRows (allHold z) k l) (sym (rows .parts)))
 

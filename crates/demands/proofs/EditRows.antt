@@ -1,74 +1,39 @@
 -- An edit of rows that stand whole, row by row: it is a rerun from the state before the edited row. Its meeting line is
 -- the first agreement of old and new states, and where the rows make a table, so do the new ones among them.
-use mathlib.Core.Path.{_≡_, refl, sym, ap, _∙_, subst₂}
+use mathlib.Core.Path.{_≡_, refl, sym, _∙_, subst₂}
 use mathlib.Core.Bool.{true}
-use mathlib.Core.List.{List, [], _∷_, _++_}
-use Prim.Native.Nat.{ℕ, suc, _+_, _-_, _≤_}
+use mathlib.Core.List.{List, _∷_, _++_}
+use Prim.Native.Nat.{ℕ, _+_, _-_, _≤_}
 use native.Mathlib.Omega.{arith}
-use borrow.Author.Tests.{le-leb, lt-leb}
-use lib.ListN.{length, getD, take, drop}
-use lib.Seq.{drop-append-add, split-at, length-take-le}
+use lib.ListN.{length}
 use Rattle.lists.specs.Put.{putAt}
-use Rattle.runs.specs.Machine.{Out, yields, stops, onOut, Verdict, accepted, refused, Row, holds, bad, allHold, Span, lastOf, rerun, Follows}
+use Rattle.runs.specs.Machine.{Out, yields, stops, onOut, Verdict, accepted, refused, Row, holds, allHold, Span, lastOf, Follows, StepBy}
 use Rattle.runs.specs.Agreement.{FirstAgreement}
-use Rattle.runs.proofs.Hold.{hold-at, hold-drop}
 use Rattle.runs.proofs.Meeting.{Redone, Met, rerun-met, Ended}
 use Rattle.runs.proofs.Edit.{splice-meets, splice-follows}
 use Rattle.rules.specs.declared.Command.{Command}
-use Rattle.rules.specs.declared.Command.the-variants.{Comment}
 use Rattle.rules.specs.declared.State.{State}
 use Rattle.rules.specs.declared.Refusal.{Refusal}
 use Rattle.rules.specs.Refusals.{badTable, endsTooSoon}
 use Rattle.rules.specs.Commands.{lineOf}
 use Rattle.rules.specs.State.{start, taken, hasEnded, sameState}
 use Rattle.rules.specs.Reading.{sayOut, Rows}
-use Rattle.rules.specs.Editing.{entryAt, onState, fromBefore, editFrom, editRows}
+use Rattle.rules.specs.Editing.{rerunFrom, editFrom, editRows}
 use Rattle.rules.proofs.Same.{same-state-iff}
-
--- ---- rows found whole
-
--- the state that the last of some rows leaves, looked up in its entry
-last-entry {ℓ} : {A : Type ℓ} (q : Row Command State) (os ys : Rows) (z : A) (f : State → A)
-    → onState (getD (allHold (q ∷ os ++ ys)) (length os) bad) z f ≡ f (lastOf (q .state) os)
-unfolding allHold lastOf
-last-entry q [] ys z f = refl
-last-entry q (o ∷ os) ys z f = last-entry o os ys z f
-
--- before a line stands the state of the rows before it
-pub from-before {ℓ} : {A : Type ℓ} (os ys : Rows) (k : ℕ) → k ≡ length os + 1 → (z : ℕ → A) (f : State → A)
-    → fromBefore (allHold (os ++ ys)) k z f ≡ f (lastOf start os)
-unfolding fromBefore lastOf
-from-before [] ys k e z f = rw (le-leb k 1 (omega arith))
-from-before (o ∷ os) ys k e z f =
-    let n : k - 1 - 1 ≡ length os = omega arith in
-    rw (lt-leb k 1 (omega arith), n) (last-entry o os ys (z (k - 1)) f)
-
-pub entry-here : (os : Rows) (r : Row Command State) (ys : Rows) (k : ℕ) → k ≡ length os + 1 → entryAt (allHold (os ++ (r ∷ ys))) k ≡ holds r
-entry-here os r ys k e = let n : k - 1 ≡ length os = omega arith in rw n (hold-at os r ys)
-
-drop-here : (os : Rows) (r : Row Command State) (ys : Rows) (k : ℕ) → k ≡ length os + 1 → drop k (allHold (os ++ (r ∷ ys))) ≡ allHold ys
-drop-here os r ys k e =
-    hold-drop k (os ++ (r ∷ ys)) ∙ ap allHold (ap (λ (n : ℕ). drop n (os ++ (r ∷ ys))) e ∙ drop-append-add os (r ∷ ys) 1)
+use Rattle.answers.proofs.Places.{before-here, entry-here, drop-here, around-line}
 
 -- ---- the edit of row r, after rows os and before rows ys
 
 module _ (os : Rows) (r : Row Command State) (ys : Rows) (k : ℕ) (e : k ≡ length os + 1) (l : List ℕ) where
   -- the rerun of an edit that gives line k the command c
   abbrev pub rerunWith : Command → Verdict (Span Command State) Refusal
-  rerunWith c = rerun taken sameState hasEnded badTable endsTooSoon (lastOf start os) (holds (record { command = c; state = r .state }) ∷ allHold ys) (length os)
+  rerunWith c = rerunFrom (lastOf start os) (holds (record { command = c; state = r .state }) ∷ allHold ys) (length os)
 
   pub edit-rows : editRows (allHold (os ++ (r ∷ ys))) k l ≡ onOut (sayOut (lineOf l)) (λ a. refused a k) rerunWith
   unfolding editRows editFrom
   edit-rows =
       let n : k - 1 ≡ length os = omega arith in
-      rw (
-        from-before os (r ∷ ys) k e (λ i. refused badTable i)
-            (λ p. onState (entryAt (allHold (os ++ (r ∷ ys))) k) (refused badTable k)
-            (λ o. onOut (sayOut (lineOf l)) (λ a. refused a k) (λ c. editFrom (allHold (os ++ (r ∷ ys))) k p o c))),
-        entry-here os r ys k e,
-        drop-here os r ys k e,
-        n,
-      )
+      rw (before-here os (r ∷ ys) k e, entry-here os r ys k e, drop-here os r ys k e, n)
 
   -- what an accepted edit made: the new line's command, and the rows redone from it on
   pub record Made (s : Span Command State) : Type 0 where
@@ -102,19 +67,11 @@ module _ (os : Rows) (r : Row Command State) (ys : Rows) (k : ℕ) (e : k ≡ le
           (splice-meets taken hasEnded start os r (made .command) ys (s .rows) (made .redone))
 
       -- the new rows among the old make a table
-      pub edit-table : Follows taken start (os ++ (r ∷ ys)) → hasEnded (lastOf start (os ++ (r ∷ ys))) ≡ true
-          → Ended taken hasEnded start (putAt (os ++ (r ∷ ys)) (length os) (s .rows))
+      pub edit-table : Follows (StepBy taken) start 0 (os ++ (r ∷ ys)) → hasEnded (lastOf start (os ++ (r ∷ ys))) ≡ true
+          → Ended taken hasEnded start 0 (putAt (os ++ (r ∷ ys)) (length os) (s .rows))
       edit-table = splice-follows taken hasEnded start os r (made .command) ys (s .rows) (made .redone)
 
 -- ---- the same of any rows, at line k
-
--- what holds at the row after any others holds at row k
-pub around-line : (P : Rows → ℕ → Type 0) (rs : Rows) (k : ℕ) → 1 ≤ k → k ≤ length rs
-    → ((os : Rows) (r : Row Command State) (ys : Rows) → k ≡ length os + 1 → P (os ++ (r ∷ ys)) (length os)) → P rs (k - 1)
-around-line P rs k a b f =
-    let d : Row Command State = record { command = Comment; state = start } in
-    let n : length (take (k - 1) rs) ≡ k - 1 = length-take-le (k - 1) rs (omega arith) in
-    subst₂ P (sym (split-at rs (k - 1) d (omega arith))) n (f (take (k - 1) rs) (getD rs (k - 1) d) (drop (suc (k - 1)) rs) (omega arith))
 
 module _ (rs : Rows) (k : ℕ) (a : 1 ≤ k) (b : k ≤ length rs) (l : List ℕ) (s : Span Command State) where
   pub edit-agreement : editRows (allHold rs) k l ≡ accepted s → FirstAgreement start rs (putAt rs (k - 1) (s .rows)) k (s .meeting)
@@ -127,8 +84,8 @@ module _ (rs : Rows) (k : ℕ) (a : 1 ≤ k) (b : k ≤ length rs) (l : List ℕ
       around-line (λ z j. editRows (allHold z) k l ≡ accepted s → s .meeting ≡ j + length (s .rows)) rs k a b
       (λ os r ys e h. edit-made os r ys k e l s h .counted)
 
-  pub edit-follows : editRows (allHold rs) k l ≡ accepted s → Follows taken start rs → hasEnded (lastOf start rs) ≡ true
-      → Ended taken hasEnded start (putAt rs (k - 1) (s .rows))
+  pub edit-follows : editRows (allHold rs) k l ≡ accepted s → Follows (StepBy taken) start 0 rs → hasEnded (lastOf start rs) ≡ true
+      → Ended taken hasEnded start 0 (putAt rs (k - 1) (s .rows))
   edit-follows =
-      around-line (λ z j. editRows (allHold z) k l ≡ accepted s → Follows taken start z → hasEnded (lastOf start z) ≡ true → Ended taken hasEnded start (putAt z j (s .rows)))
+      around-line (λ z j. editRows (allHold z) k l ≡ accepted s → Follows (StepBy taken) start 0 z → hasEnded (lastOf start z) ≡ true → Ended taken hasEnded start 0 (putAt z j (s .rows)))
       rs k a b (λ os r ys e h. edit-table os r ys k e l s h)

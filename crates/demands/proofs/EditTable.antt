@@ -1,18 +1,14 @@
 -- An edit in the numbers of a table: the rows of its span are written in place of as many old ones, so the numbers are
 -- those of the new rows, and rows, numbers and holes outside the span are as they were.
 use mathlib.Core.Path.{_≡_, refl, sym, ap, _∙_}
-use mathlib.Core.Bool.{Bool, true, false}
+use mathlib.Core.Bool.{Bool, true, false, cond}
 use mathlib.Core.List.{List, _++_, append-assoc}
-use Prim.Native.Nat.{ℕ, _+_, _-_, _*_, _/_, _≤_}
+use Prim.Native.Nat.{ℕ, _+_, _-_, _*_, _≤_}
 use native.Mathlib.Omega.{arith}
-use borrow.Author.Tests.{le-leb, leb-true}
-use lib.Dec.{leb}
 use lib.IntN.{ℤ}
 use lib.ListN.{length, take, drop, length-append, take-append-drop}
 use lib.Seq.{take-at, drop-at, length-take-le}
-use Rattle.lists.specs.Choice.{pick}
 use Rattle.lists.specs.Put.{putAt}
-use Rattle.lists.proofs.Choice.{both}
 use Rattle.lists.proofs.Put.{put-length, put-before, put-after}
 use Rattle.runs.specs.Machine.{accepted, refused, allHold, Span}
 use Rattle.runs.specs.Agreement.{FirstAgreement}
@@ -24,44 +20,20 @@ use Rattle.rules.specs.declared.HoleAnswer.the-variants as H
 use Rattle.rules.specs.Refusals.{noSuchLine}
 use Rattle.rules.specs.Numbers.{maxLines}
 use Rattle.rules.specs.State.{start}
-use Rattle.rules.specs.Rows.{rowWidth, tableNumbers, sizesFit}
+use Rattle.rules.specs.Rows.{rowWidth, tableNumbers}
 use Rattle.rules.specs.Reading.{Rows}
 use Rattle.rules.specs.Editing.{isLine, noLineEnd, editRows, editOf, editAnswer, editLeaves}
 use Rattle.rules.specs.Asking.{holeIn, holeAnswer}
-use Rattle.table.proofs.Entries.{RowsOk, table-length, table-append, entries-table}
+use Rattle.laws.proofs.Sizes.{line-says, line-is, Sizes, sizes-fit}
+use Rattle.laws.proofs.InRange.{RowsOk}
+use Rattle.laws.proofs.Entries.{table-length, table-append, entries-table}
+use Rattle.answers.proofs.LineHoles.{hole-first, hole-rest}
 use Rattle.demands.specs.Demand3.{SameOutside}
 use Rattle.demands.proofs.EditRows.{edit-agreement, edit-counted}
-use Rattle.demands.proofs.SameHoles.{hole-first, hole-rest}
 
--- ---- sizes
-
-pick-same {ℓ} : {A : Type ℓ} (t : Bool) {a b : A} (c : A) → (t ≡ true → a ≡ b) → pick t a c ≡ pick t b c
-pick-same true c f = f refl
-pick-same false c f = refl
-
-pub line-says : (n k : ℕ) → isLine n k ≡ true → (1 ≤ k) × (k ≤ n)
-unfolding isLine
-line-says n k h = let p = both (leb 1 k) (leb k n) h in (leb-true 1 k (p .0), leb-true k n (p .1))
-
-pub line-is : (n k : ℕ) → 1 ≤ k → k ≤ n → isLine n k ≡ true
-unfolding isLine
-line-is n k a b = rw (le-leb 1 k a, le-leb k n b)
-
-pub record Sizes (t : List ℤ) (n : ℕ) : Type 0 where
-  pub some : 1 ≤ n
-  pub few : n ≤ maxLines
-  pub room : rowWidth * n ≤ length t
-
-pub sizes-fit : (t : List ℤ) (n : ℕ) → Sizes t n → sizesFit t n ≡ true
-unfolding sizesFit
-sizes-fit t n z = rw (le-leb 1 n (z .some), le-leb n maxLines (z .few), le-leb n (length t / 15) (omega (arith, z .room)))
-
-pub sizes-say : (t : List ℤ) (n : ℕ) → sizesFit t n ≡ true → Sizes t n
-unfolding sizesFit
-sizes-say t n h =
-    let p = both (leb 1 n) _ h in
-    let q = both (leb n maxLines) _ (p .1) in
-    record { some = leb-true 1 n (p .0); few = leb-true n maxLines (q .0); room = omega (arith, leb-true n (length t / 15) (q .1)) }
+cond-same {ℓ} : {A : Type ℓ} (t : Bool) {a b : A} (c : A) → (t ≡ true → a ≡ b) → cond t a c ≡ cond t b c
+cond-same true c f = f refl
+cond-same false c f = refl
 
 -- ---- rows in the place of others
 
@@ -71,19 +43,19 @@ module _ (rs : Rows) (rest : List ℤ) (j : ℕ) (h : j ≤ length rs) where
       ap (λ (z : Rows). tableNumbers z ++ rest) (sym (take-append-drop j rs)) ∙ ap (λ (z : List ℤ). z ++ rest) (table-append (take j rs) (drop j rs))
       ∙ append-assoc (tableNumbers (take j rs)) (tableNumbers (drop j rs)) rest
 
-  first-length : length (tableNumbers (take j rs)) ≡ 15 * j
-  first-length = table-length (take j rs) ∙ ap (λ (n : ℕ). 15 * n) (length-take-le j rs h)
+  first-length : length (tableNumbers (take j rs)) ≡ rowWidth * j
+  first-length = table-length (take j rs) ∙ ap (λ (n : ℕ). rowWidth * n) (length-take-le j rs h)
 
-  take-table : take (15 * j) (tableNumbers rs ++ rest) ≡ tableNumbers (take j rs)
-  take-table = ap (take (15 * j)) parted ∙ take-at (tableNumbers (take j rs)) (tableNumbers (drop j rs) ++ rest) (15 * j) first-length
+  take-table : take (rowWidth * j) (tableNumbers rs ++ rest) ≡ tableNumbers (take j rs)
+  take-table = ap (take (rowWidth * j)) parted ∙ take-at (tableNumbers (take j rs)) (tableNumbers (drop j rs) ++ rest) (rowWidth * j) first-length
 
-  drop-table : drop (15 * j) (tableNumbers rs ++ rest) ≡ tableNumbers (drop j rs) ++ rest
-  drop-table = ap (drop (15 * j)) parted ∙ drop-at (tableNumbers (take j rs)) (tableNumbers (drop j rs) ++ rest) (15 * j) first-length
+  drop-table : drop (rowWidth * j) (tableNumbers rs ++ rest) ≡ tableNumbers (drop j rs) ++ rest
+  drop-table = ap (drop (rowWidth * j)) parted ∙ drop-at (tableNumbers (take j rs)) (tableNumbers (drop j rs) ++ rest) (rowWidth * j) first-length
 
 pub table-put : (rs ns : Rows) (rest : List ℤ) (j : ℕ) → j + length ns ≤ length rs
-    → putAt (tableNumbers rs ++ rest) (15 * j) (tableNumbers ns) ≡ tableNumbers (putAt rs j ns) ++ rest
+    → putAt (tableNumbers rs ++ rest) (rowWidth * j) (tableNumbers ns) ≡ tableNumbers (putAt rs j ns) ++ rest
 table-put rs ns rest j h =
-    let n : 15 * j + length (tableNumbers ns) ≡ 15 * (j + length ns) = omega (arith, table-length ns) in
+    let n : rowWidth * j + length (tableNumbers ns) ≡ rowWidth * (j + length ns) = omega (arith, table-length ns) in
     rw (take-table rs rest j (omega arith), n, drop-table rs rest (j + length ns) h)
     (sym (append-assoc (tableNumbers (take j rs) ++ tableNumbers ns) (tableNumbers (drop (j + length ns) rs)) rest)
     ∙ ap (λ (z : List ℤ). z ++ tableNumbers (drop (j + length ns) rs) ++ rest) (sym (table-append (take j rs) ns))
@@ -134,7 +106,7 @@ module _ (rs : Rows) (rest : List ℤ) (ok : RowsOk rs) (few : length rs ≤ max
     -- ---- outside the span
 
     hole-answer : (ns : Rows) → length ns ≡ length rs → RowsOk ns → (j : ℕ)
-        → holeAnswer (tableNumbers ns ++ rest) (length rs) j ≡ pick (isLine (length rs) j) (holeIn (allHold ns) j) (H.Refused noSuchLine 0)
+        → holeAnswer (tableNumbers ns ++ rest) (length rs) j ≡ cond (isLine (length rs) j) (holeIn (allHold ns) j) (H.Refused noSuchLine 0)
     unfolding holeAnswer
     hole-answer ns e g j =
         rw (sizes-fit (tableNumbers ns ++ rest) (length rs) (sizes ns e), rw e at (entries-table ns rest g))
@@ -144,7 +116,7 @@ module _ (rs : Rows) (rest : List ℤ) (ok : RowsOk rs) (few : length rs ≤ max
           → holeAnswer (tableNumbers (putAt rs (k - 1) (s .rows)) ++ rest) (length rs) j ≡ holeAnswer (tableNumbers rs ++ rest) (length rs) j
       same-hole j f =
           hole-answer (putAt rs (k - 1) (s .rows)) new-length g j
-          ∙ pick-same (isLine (length rs) j) (H.Refused noSuchLine 0) (λ t. let p = line-says (length rs) j t in f (p .0) (p .1))
+          ∙ cond-same (isLine (length rs) j) (H.Refused noSuchLine 0) (λ t. let p = line-says (length rs) j t in f (p .0) (p .1))
           ∙ sym (hole-answer rs refl ok j)
 
       pub same-outside : SameOutside (tableNumbers rs ++ rest) (tableNumbers (putAt rs (k - 1) (s .rows)) ++ rest) (length rs) k (s .meeting)

@@ -1,28 +1,24 @@
 -- Every line of an accepted file is a line that demand 3 speaks of, and the edited file is one: its bytes are its lines
 -- put together again.
-use mathlib.Core.Path.{_≡_, refl, sym, ap, ap₂, _∙_, subst}
-use mathlib.Core.Bool.{Bool, true, false, false≢true}
+use mathlib.Core.Path.{_≡_, refl, sym, ap, _∙_, subst}
+use mathlib.Core.Bool.{Bool, true, false, false≢true, cond}
 use mathlib.Core.List.{List, [], _∷_, _++_, append-assoc, append-nil}
 use Prim.Native.Nat.{ℕ, zero, suc, _+_, _-_, _<_, _≤_}
 use native.Mathlib.Omega.{arith}
-use borrow.Author.Tests.{eqb-true, eqb-false, ltb-true, lt-ltb}
-use lib.Dec.{eqb, ltb}
-use lib.ListN.{length, getD, set, take, length-append, take-append-drop, drop-of-length-le}
-use lib.Seq.{drop-cons, getD-at, getD-append-seam}
-use Rattle.lists.specs.Choice.{pick}
-use Rattle.lists.proofs.Choice.{both}
+use borrow.Author.Tests.{eqb-true, eqb-false}
+use lib.Dec.{eqb}
+use lib.ListN.{length, getD, set}
+use lib.Seq.{getD-at}
 use Rattle.runs.specs.Machine.{accepted}
-use Rattle.runs.proofs.Agree.{reads-length}
-use Rattle.rules.specs.Lines.{LF, CR, Line, emptyLine, addByte, linesOf, endsInCR}
+use Rattle.runs.proofs.Chains.{chain-length}
+use Rattle.rules.specs.Lines.{LF, CR, Line, emptyLine, addByte, linesOf, endsInCR, textOf, NoLF, AllEnded}
 use Rattle.rules.specs.Spelling.{LineEnd, lf, crlf}
-use Rattle.rules.specs.State.{taken}
-use Rattle.rules.specs.Reading.{commandIn, Rows, fileOf}
+use Rattle.rules.specs.Reading.{Rows, fileOf}
 use Rattle.rules.specs.Editing.{noLineEnd}
-use Rattle.obeys.proofs.Split.{joinOf, join-lines}
-use Rattle.demands.specs.EditedFile.{AllEnded, NoLF, LineOf, edited}
-use Rattle.demands.proofs.EditedLines.{add-ended, lf-line, crOf, lineWith, lines-old, lines-set}
-use Rattle.demands.proofs.InRange.{reads-ended}
-use Rattle.demands.proofs.AcceptedFile.{file-accepts}
+use Rattle.laws.proofs.Lines.{no-byte-take, ends-cr, cr-last, endedLine, crOf, lineWith, lf-line, add-ended, joinOf, join-lines}
+use Rattle.answers.proofs.AcceptedFile.{file-accepts, file-ended}
+use Rattle.demands.specs.EditedFile.{LineOf, edited}
+use Rattle.demands.proofs.EditedLines.{lines-old, lines-set}
 
 -- ---- the first line of bytes that are whole lines
 
@@ -36,7 +32,7 @@ some-line : (b : ℕ) (ls : List Line) → AllEnded (addByte b ls) → 0 < lengt
 some-line b [] h = absurd (false≢true (h .0))
 some-line b (l ∷ ls) h = omega arith
 
-first-byte : (b : ℕ) (bs : List ℕ) (t : Bool) → eqb b LF ≡ t → AllEnded (pick t (emptyLine ∷ linesOf bs) (addByte b (linesOf bs)))
+first-byte : (b : ℕ) (bs : List ℕ) (t : Bool) → eqb b LF ≡ t → AllEnded (cond t (emptyLine ∷ linesOf bs) (addByte b (linesOf bs)))
     → (AllEnded (linesOf bs) → 0 < length (linesOf bs) → FirstOf bs) → FirstOf (b ∷ bs)
 first-byte b bs true e h ih = record { line = []; rest = bs; parts = ap (λ (z : ℕ). z ∷ bs) (eqb-true b LF e); no-lf = tt }
 first-byte b bs false e h ih =
@@ -58,27 +54,16 @@ record EndOf (line : List ℕ) : Type 0 where
   ends : LineEnd end
   no-cr-left : end ≡ LF ∷ [] → endsInCR text ≡ false
 
-no-lf-take : (n : ℕ) (l : List ℕ) → NoLF l → NoLF (take n l)
-no-lf-take zero l h = tt
-no-lf-take (suc n) [] h = tt
-no-lf-take (suc n) (b ∷ l) h = (h .0, no-lf-take n l (h .1))
-
-cr-last : (l : List ℕ) → endsInCR l ≡ true → l ≡ take (length l - 1) l ++ (CR ∷ [])
-unfolding endsInCR
-cr-last l e =
-    let h = both (ltb 0 (length l)) (eqb (getD l (length l - 1) 0) CR) e in
-    let n : 0 < length l = ltb-true 0 (length l) (h .0) in
-    let m : length l ≤ suc (length l - 1) = omega arith in
-    let c : getD l (length l - 1) 0 ≡ CR = eqb-true (getD l (length l - 1) 0) CR (h .1) in
-    sym (take-append-drop (length l - 1) l)
-    ∙ ap (λ (z : List ℕ). take (length l - 1) l ++ z) (drop-cons l (length l - 1) 0 (omega arith) ∙ ap₂ _∷_ c (drop-of-length-le l {i = suc (length l - 1)} m))
+text-no-lf : (l : List ℕ) → NoLF l → endsInCR l ≡ true → NoLF (textOf l)
+unfolding textOf
+text-no-lf l h e = rw e (no-byte-take LF (length l - 1) l h)
 
 end-of : (l : List ℕ) → NoLF l → (t : Bool) → endsInCR l ≡ t → EndOf l
 end-of l h true e = record {
-  text = take (length l - 1) l;
+  text = textOf l;
   end = CR ∷ LF ∷ [];
-  parts = λ rest. ap (λ (z : List ℕ). z ++ (LF ∷ rest)) (cr-last l e) ∙ append-assoc (take (length l - 1) l) (CR ∷ []) (LF ∷ rest);
-  no-lf = no-lf-take (length l - 1) l h;
+  parts = λ rest. ap (λ (z : List ℕ). z ++ (LF ∷ rest)) (cr-last l e) ∙ append-assoc (textOf l) (CR ∷ []) (LF ∷ rest);
+  no-lf = text-no-lf l h e;
   ends = crlf;
   no-cr-left = λ w. absurd (let z : _≡_ {A = ℕ} 13 10 = cc in omega arith);
 }
@@ -87,7 +72,7 @@ end-of l h false e = record { text = l; end = LF ∷ []; parts = λ rest. refl; 
 -- ---- line k
 
 module _ {bs : List ℕ} (f : FirstOf bs) where
-  first-lines : linesOf bs ≡ record { bytes = f .line; ended = true } ∷ linesOf (f .rest)
+  first-lines : linesOf bs ≡ endedLine (f .line) ∷ linesOf (f .rest)
   first-lines = ap linesOf (f .parts) ∙ lf-line (f .line) (f .rest) (f .no-lf)
 
   first : EndOf (f .line) → LineOf bs 1
@@ -108,7 +93,7 @@ module _ {bs : List ℕ} (f : FirstOf bs) where
   -- a line of the rest is a line of all
   later : {k : ℕ} → LineOf (f .rest) k → LineOf bs (suc k)
   later w =
-      let d : linesOf (f .line ++ (LF ∷ w .before)) ≡ record { bytes = f .line; ended = true } ∷ linesOf (w .before) = lf-line (f .line) (w .before) (f .no-lf) in
+      let d : linesOf (f .line ++ (LF ∷ w .before)) ≡ endedLine (f .line) ∷ linesOf (w .before) = lf-line (f .line) (w .before) (f .no-lf) in
       record {
         before = f .line ++ (LF ∷ w .before);
         line = w .line;
@@ -131,18 +116,10 @@ line-at (suc k) bs h n =
 
 pub every-line : (bs : List ℕ) (rs : Rows) → fileOf bs ≡ accepted rs → (k : ℕ) → 1 ≤ k → k ≤ length rs → LineOf bs k
 every-line bs rs h k a b =
-    let r = file-accepts bs rs h .reads in
     let n : suc (k - 1) ≡ k = omega arith in
-    subst (LineOf bs) n (line-at (k - 1) bs (reads-ended r) (omega (arith, reads-length commandIn taken r)))
+    subst (LineOf bs) n (line-at (k - 1) bs (file-ended bs rs h) (omega (arith, chain-length (file-accepts bs rs h .reads))))
 
 -- ---- one edited file
-
-ends-cr : (l : List ℕ) → endsInCR (l ++ (CR ∷ [])) ≡ true
-unfolding endsInCR
-ends-cr l =
-    let n : length (l ++ (CR ∷ [])) ≡ length l + 1 = length-append l (CR ∷ []) in
-    let m : length l + 1 - 1 ≡ length l = omega arith in
-    rw (n, m, lt-ltb 0 (length l + 1) (omega arith), getD-append-seam l CR [] 0)
 
 -- two ends of one line
 same-end : (a b : List ℕ) {d e : List ℕ} (v : LineEnd d) (w : LineEnd e) → (d ≡ LF ∷ [] → endsInCR a ≡ false) → (e ≡ LF ∷ [] → endsInCR b ≡ false)
@@ -163,5 +140,5 @@ module _ {bs : List ℕ} {k : ℕ} where
       let c : crOf (v .ends) ≡ crOf (w .ends)
       = same-end (v .line) (w .line) (v .ends) (w .ends) (v .no-cr-left) (w .no-cr-left) (ap (λ (z : Line). z .bytes) (sym (at-line v) ∙ at-line w)) in
       let d : linesOf (edited v l) ≡ linesOf (edited w l)
-      = lines-set v l h ∙ ap (λ (z : List ℕ). set (linesOf bs) (k - 1) (record { bytes = l ++ z; ended = true })) c ∙ sym (lines-set w l h) in
+      = lines-set v l h ∙ ap (λ (z : List ℕ). set (linesOf bs) (k - 1) (endedLine (l ++ z))) c ∙ sym (lines-set w l h) in
       sym (join-lines (edited v l)) ∙ ap joinOf d ∙ join-lines (edited w l)

@@ -7,15 +7,15 @@ use native.Mathlib.Omega.{arith}
 use lib.IntN.{ℤ}
 use lib.ListN.{length, drop}
 use Rattle.rules.specs.declared.Answer.the-variants.{Done}
-use Rattle.rules.specs.Rows.{tableNumbers, Good}
+use Rattle.rules.specs.Rows.{rowWidth, tableNumbers, Good}
 use Rattle.rules.specs.Reading.{Rows, readAnswer, readLeaves}
-use Rattle.table.proofs.Entries.{table-length}
+use Rattle.laws.proofs.Entries.{table-length}
 use Rattle.round.specs.Comments.{textWithComments}
 use Rattle.round.proofs.Files.{commented-file-back}
 use Rattle.demands.specs.GoodTable.{GoodTable}
 use Rattle.demands.specs.GoodExactly.{ReadTo}
-use Rattle.demands.proofs.AcceptedFile.{read-done, read-accepts, read-writes}
-use Rattle.demands.proofs.GoodTables.{file-table, good-whole}
+use Rattle.answers.proofs.AcceptedFile.{read-done, read-accepts, read-writes}
+use Rattle.answers.proofs.GoodTables.{file-table, good-whole}
 
 module _ (t : List ℤ) (n : ℕ) (rs : Rows) (g : Good t n rs) where
   -- the file of a good table, read into the table itself, changes nothing
@@ -23,8 +23,8 @@ module _ (t : List ℤ) (n : ℕ) (rs : Rows) (g : Good t n rs) where
   good-read =
       let w = good-whole t n rs g in
       let f = commented-file-back rs (w .rows) in
-      let room : 15 * length rs ≤ length t = omega (arith, w .count, w .room) in
-      let m : 0 + length (tableNumbers rs) ≡ 15 * n = omega (arith, table-length rs, w .count) in (
+      let room : rowWidth * length rs ≤ length t = omega (arith, w .count, w .room) in
+      let m : 0 + length (tableNumbers rs) ≡ rowWidth * n = omega (arith, table-length rs, w .count) in (
         read-accepts (textWithComments rs) t rs f room ∙ ap Done (w .count),
         read-writes (textWithComments rs) t rs f room ∙ ap (λ (j : ℕ). tableNumbers rs ++ drop j t) m ∙ sym (w .numbers),
       )

@@ -8,23 +8,24 @@ use native.Mathlib.Omega.{arith}
 use lib.IntN.{ℤ}
 use lib.ListN.{length, take, drop}
 use Rattle.lists.specs.Put.{putAt}
-use Rattle.runs.specs.Machine.{accepted, Row, allHold, Span, lastOf, Follows}
+use Rattle.runs.specs.Machine.{accepted, Row, allHold, Span, lastOf, Follows, StepBy}
 use Rattle.rules.specs.declared.Command.{Command}
 use Rattle.rules.specs.declared.State.{State}
 use Rattle.rules.specs.declared.Answer.the-variants.{Done}
 use Rattle.rules.specs.Numbers.{maxLines}
 use Rattle.rules.specs.State.{start, taken, hasEnded}
-use Rattle.rules.specs.Rows.{tableNumbers, Good}
+use Rattle.rules.specs.Rows.{rowWidth, tableNumbers, Good}
 use Rattle.rules.specs.Reading.{Rows}
 use Rattle.rules.specs.Editing.{noLineEnd, editRows, editAnswer, editLeaves}
-use Rattle.rules.proofs.Keeps.{start-ok}
-use Rattle.table.proofs.Entries.{RowsOk}
+use Rattle.laws.proofs.Keeps.{start-ok}
+use Rattle.laws.proofs.Sizes.{line-says}
+use Rattle.laws.proofs.InRange.{RowsOk, rows-append, rows-first, rows-rest, rows-take, rows-drop, last-ok, said-ok, redone-ok}
+use Rattle.answers.proofs.Places.{around-line}
+use Rattle.answers.proofs.GoodTables.{rows-table, good-whole}
+use Rattle.answers.proofs.EditSpan.{edit-tests, edit-done}
 use Rattle.demands.specs.GoodTable.{GoodTable}
-use Rattle.demands.proofs.InRange.{rows-append, rows-first, rows-rest, rows-take, rows-drop, last-ok, line-ok, redone-ok}
-use Rattle.demands.proofs.EditSpan.{edit-tests, edit-done}
-use Rattle.demands.proofs.EditRows.{around-line, edit-made, edit-follows}
-use Rattle.demands.proofs.EditTable.{line-says, edit-writes, new-length}
-use Rattle.demands.proofs.GoodTables.{rows-table, good-whole}
+use Rattle.demands.proofs.EditRows.{edit-made, edit-follows}
+use Rattle.demands.proofs.EditTable.{edit-writes, new-length}
 
 -- ---- the new rows are in range
 
@@ -35,7 +36,7 @@ module _ (os : Rows) (r : Row Command State) (ys : Rows) (k : ℕ) (e : k ≡ le
       let m = edit-made os r ys k e l s h in
       let rest = rows-rest os (r ∷ ys) ok in
       let new : RowsOk (s .rows)
-      = redone-ok (m .redone) (last-ok start os start-ok (rows-first os (r ∷ ys) ok)) (line-ok l (m .command) (m .said), rest .1, rest .2) in
+      = redone-ok (m .redone) (last-ok start os start-ok (rows-first os (r ∷ ys) ok)) (said-ok l (m .command) (m .said), rest .1, rest .2) in
       rows-append (take (length os) (os ++ (r ∷ ys)) ++ s .rows) (drop (length os + length (s .rows)) (os ++ (r ∷ ys)))
       (rows-append (take (length os) (os ++ (r ∷ ys))) (s .rows) (rows-take (length os) (os ++ (r ∷ ys)) ok) new)
       (rows-drop (length os + length (s .rows)) (os ++ (r ∷ ys)) ok)
@@ -48,7 +49,7 @@ edit-ok rs k a b l s =
 
 -- ---- the table that is left
 
-module _ (rs : Rows) (rest : List ℤ) (ok : RowsOk rs) (few : length rs ≤ maxLines) (follows : Follows taken start rs) (ends : hasEnded (lastOf start rs) ≡ true)
+module _ (rs : Rows) (rest : List ℤ) (ok : RowsOk rs) (few : length rs ≤ maxLines) (follows : Follows (StepBy taken) start 0 rs) (ends : hasEnded (lastOf start rs) ≡ true)
     (k : ℕ) (a : 1 ≤ k) (b : k ≤ length rs) (l : List ℕ) (hl : noLineEnd l ≡ true) (s : Span Command State) (h : editRows (allHold rs) k l ≡ accepted s) where
   left-good : Good (editLeaves (tableNumbers rs ++ rest) (length rs) k l) (length rs) (putAt rs (k - 1) (s .rows))
   left-good =
@@ -69,5 +70,5 @@ good-stays t n rs g k l m h =
     record {
       rows = putAt rs (k - 1) (d .span .rows);
       good = subst₂ (λ (u : List ℤ) (j : ℕ). Good (editLeaves u j k l) j (putAt rs (k - 1) (d .span .rows))) (sym (w .numbers)) (w .count)
-          (left-good rs (drop (15 * n) t) (w .ok) (w .rows .count) (g .follows) (g .ends) k (p .0) (omega (arith, w .count, p .1)) l (e .no-end) (d .span) made);
+          (left-good rs (drop (rowWidth * n) t) (w .rows .in-range) (w .rows .count) (g .follows) (g .ends) k (p .0) (omega (arith, w .count, p .1)) l (e .no-end) (d .span) made);
     }

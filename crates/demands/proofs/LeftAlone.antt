@@ -1,7 +1,7 @@
 -- What reading, editing and writing leave of what is lent. An answer and what it leaves come from one verdict: on a refusal
 -- nothing is put anywhere, on success a list is put in one place, inside what is lent, and that leaves the rest.
-use mathlib.Core.Path.{_≡_, refl, ap, _∙_, subst}
-use mathlib.Core.Bool.{Bool, true, false}
+use mathlib.Core.Path.{_≡_, refl, ap, _∙_, subst, subst₂}
+use mathlib.Core.Bool.{Bool, true, false, cond}
 use mathlib.Core.List.{List}
 use Prim.Native.Nat.{ℕ, _+_, _-_, _*_, _≤_}
 use native.Mathlib.Omega.{arith}
@@ -9,59 +9,61 @@ use borrow.Author.Tests.{leb-true}
 use lib.Dec.{leb}
 use lib.IntN.{ℤ}
 use lib.ListN.{length, take, drop}
-use Rattle.lists.specs.Choice.{pick}
 use Rattle.lists.specs.Put.{putAt}
-use Rattle.lists.proofs.Choice.{pick-all}
 use Rattle.lists.proofs.Put.{put-length, put-before, put-after}
 use Rattle.runs.specs.Machine.{Verdict, accepted, refused, onVerdict, Span}
 use Rattle.rules.specs.declared.Command.{Command}
 use Rattle.rules.specs.declared.State.{State}
 use Rattle.rules.specs.declared.Refusal.{Refusal}
 use Rattle.rules.specs.declared.Answer.the-variants.{Done, Refused}
-use Rattle.rules.specs.Refusals.{noRoom}
+use Rattle.rules.specs.Refusals.{noRoom, badTable}
 use Rattle.rules.specs.Numbers.{maxLines}
-use Rattle.rules.specs.Rows.{rowWidth, tableNumbers, entriesOf, sizesFit}
+use Rattle.rules.specs.Rows.{rowWidth, tableNumbers}
 use Rattle.rules.specs.Reading.{Rows, fileOf, hasRoom, inRoom, withRows, readAnswer, readLeaves}
-use Rattle.rules.specs.Editing.{isLine, noLineEnd, editOf, editAnswer, editLeaves}
-use Rattle.rules.specs.Writing.{textOfRows, rowsOf, inBlock, withText, writeAnswer, writeLeaves}
+use Rattle.rules.specs.Editing.{editOf, meetingOf, leavesOf, editAnswer, editLeaves}
+use Rattle.rules.specs.Writing.{longestLine, textOfRows, rowsOf, inBlock, withText, writeAnswer, writeLeaves}
+use Rattle.laws.proofs.Sizes.{sizes-say, line-says, room-says}
+use Rattle.laws.proofs.Entries.{table-length}
 use Rattle.obeys.proofs.Files.{refused-says}
-use Rattle.table.proofs.Entries.{table-length, entries-length}
 use Rattle.round.proofs.Files.{text-length}
-use Rattle.demands.specs.Demand1.{among, OnLine, longestLine, readRefusals, editRefusals, writeRefusals, ReadLeavesRest, EditLeavesRest, WriteLeavesRest}
-use Rattle.demands.proofs.WhichRefusals.{Refuses, faulty-of, edit-refuses-of, rows-refuses}
-use Rattle.demands.proofs.WhichLines.{Named, faulty-upto, edit-lines, rows-lines}
-use Rattle.demands.proofs.EditSpan.{SpanOf, edit-spans, edit-tests, edit-done}
-use Rattle.demands.proofs.EditTable.{sizes-say, line-says}
-use Rattle.demands.proofs.AcceptedFile.{read-done, read-writes, file-few}
-use Rattle.demands.proofs.GoodTables.{good-whole}
-use Rattle.demands.proofs.WrittenTable.{rows-good, write-done, write-writes}
+use Rattle.answers.proofs.Refused.{Told, faulty-told, edit-told, rows-told}
+use Rattle.answers.proofs.AcceptedFile.{read-done, read-writes, file-few}
+use Rattle.answers.proofs.GoodTables.{good-whole}
+use Rattle.answers.proofs.WrittenTable.{rows-good, write-done, write-writes}
+use Rattle.answers.proofs.EditSpan.{SpanOf, edit-tests, edit-done}
+use Rattle.answers.proofs.Small.{span-of}
+use Rattle.demands.specs.Demand1.{among, OnLine, readRefusals, editRefusals, writeRefusals, ReadLeavesRest, EditLeavesRest, WriteLeavesRest}
 
 -- ---- reading
 
 -- a refusal that reading gives
-InRead : Refusal → Type 0
-InRead e = among readRefusals (e .number) ≡ true
+abbrev InRead : Refusal → ℕ → Type 0
+InRead e i = (among readRefusals (e .number) ≡ true) × (i ≤ maxLines + 1)
 
-file-refusals : (bs : List ℕ) (e : Refusal) (i : ℕ) → fileOf bs ≡ refused e i → InRead e
-unfolding InRead
+file-refusals : (bs : List ℕ) (e : Refusal) (i : ℕ) → fileOf bs ≡ refused e i → InRead e i
 file-refusals bs e i h =
-    faulty-of InRead (record { phase = refl; motion = refl; again = refl; undeclared = refl; unselected = refl; arc = refl })
-    (record { long = refl; byte = refl; form = refl; range = refl }) refl refl refl refl (refused-says bs e i .0 h)
+    faulty-told InRead (refl, omega arith)
+    (λ j n. record {
+      line = record { long = (refl, n); byte = (refl, n); form = (refl, n); range = (refl, n) };
+      step = record { phase = (refl, n); motion = (refl, n); again = (refl, n); undeclared = (refl, n); unselected = (refl, n); arc = (refl, n) };
+      many = (refl, n);
+      unended = (refl, n);
+      short = (refl, n);
+    }) (refused-says bs e i .0 h)
 
 module _ (bs : List ℕ) (t : List ℤ) where
-  no-room : (rs : Rows) (e : Refusal) (i : ℕ) (b : Bool) → pick b (Done (length rs)) (Refused noRoom 0) ≡ Refused e i
-      → (pick b (putAt t 0 (tableNumbers rs)) t ≡ t) × InRead e × (i ≤ maxLines + 1)
-  unfolding InRead
+  no-room : (rs : Rows) (e : Refusal) (i : ℕ) (b : Bool) → cond b (Done (length rs)) (Refused noRoom 0) ≡ Refused e i
+      → (cond b (putAt t 0 (tableNumbers rs)) t ≡ t) × InRead e i
   no-room rs e i true h = absurd (let z : _≡_ {A = ℕ} 0 1 = cc in omega arith)
-  no-room rs e i false h = let d : noRoom ≡ e = cc in let z : 0 ≡ i = cc in (refl, subst InRead d refl, omega arith)
+  no-room rs e i false h = let d : noRoom ≡ e = cc in let z : 0 ≡ i = cc in (refl, subst₂ InRead d z (refl, omega arith))
 
   not-read : (e : Refusal) (i : ℕ) (v : Verdict Rows Refusal) → fileOf bs ≡ v → onVerdict v Refused (inRoom t) ≡ Refused e i
-      → (onVerdict v (λ e i. t) (withRows t) ≡ t) × InRead e × (i ≤ maxLines + 1)
+      → (onVerdict v (λ e i. t) (withRows t) ≡ t) × InRead e i
   not-read e i (accepted rs) w h = no-room rs e i (hasRoom t (length rs)) h
   not-read e i (refused a j) w h =
       let d : a ≡ e = cc in
       let z : j ≡ i = cc in
-      (refl, subst InRead d (file-refusals bs a j w), omega (arith, faulty-upto (refused-says bs a j .0 w)))
+      (refl, subst₂ InRead d z (file-refusals bs a j w))
 
   read-beyond : (n : ℕ) → readAnswer bs t ≡ Done n → drop (rowWidth * n) (readLeaves bs t) ≡ drop (rowWidth * n) t
   read-beyond n h =
@@ -69,9 +71,8 @@ module _ (bs : List ℕ) (t : List ℤ) where
       ap (drop (rowWidth * n)) (read-writes bs t (d .rows) (d .read) (d .room))
       ∙ put-after t 0 (rowWidth * n) (tableNumbers (d .rows)) (omega (arith, table-length (d .rows), d .counted)) (omega (arith, d .room, d .counted))
 
-  room-kept : (rs : Rows) (b : Bool) → hasRoom t (length rs) ≡ b → length (pick b (putAt t 0 (tableNumbers rs)) t) ≡ length t
-  unfolding hasRoom
-  room-kept rs true h = put-length t 0 (tableNumbers rs) (omega (arith, table-length rs, leb-true (length rs) _ h))
+  room-kept : (rs : Rows) (b : Bool) → hasRoom t (length rs) ≡ b → length (cond b (putAt t 0 (tableNumbers rs)) t) ≡ length t
+  room-kept rs true h = put-length t 0 (tableNumbers rs) (omega (arith, table-length rs, room-says t (length rs) h))
   room-kept rs false h = refl
 
   read-length : (v : Verdict Rows Refusal) → length (onVerdict v (λ e i. t) (withRows t)) ≡ length t
@@ -79,9 +80,9 @@ module _ (bs : List ℕ) (t : List ℤ) where
   read-length (refused e i) = refl
 
   pub read-rest : ReadLeavesRest bs t
-  unfolding readAnswer readLeaves InRead
+  unfolding readAnswer readLeaves
   read-rest = record {
-    refused = λ e i h. not-read e i (fileOf bs) refl h;
+    refused = λ e i h. let w = not-read e i (fileOf bs) refl h in (w .0, w .1 .0, w .1 .1);
     inside = λ n h. let d = read-done bs t n h in (omega (arith, file-few bs (d .rows) (d .read), d .counted), omega (arith, d .room, d .counted));
     beyond = read-beyond;
     as-many = read-length (fileOf bs);
@@ -89,24 +90,26 @@ module _ (bs : List ℕ) (t : List ℤ) where
 
 -- ---- editing
 
-InEdit : Refusal → Type 0
-InEdit e = among editRefusals (e .number) ≡ true
+abbrev InEdit : ℕ → Refusal → ℕ → Type 0
+InEdit n e i = (among editRefusals (e .number) ≡ true) × OnLine (n + 1) (maxLines + 1) i
 
 module _ (t : List ℤ) (n k : ℕ) (l : List ℕ) where
-  edit-refusals : Refuses InEdit (editOf t n k l)
-  unfolding editOf InEdit
+  edit-refusals : Told (InEdit n) (editOf t n k l)
   edit-refusals =
-      pick-all (Refuses InEdit) (sizesFit t n)
-      (λ _. pick-all (Refuses InEdit) (isLine n k)
-      (λ _. pick-all (Refuses InEdit) (noLineEnd l)
-      (λ _. edit-refuses-of InEdit (record { phase = refl; motion = refl; again = refl; undeclared = refl; unselected = refl; arc = refl })
-      (record { long = refl; byte = refl; form = refl; range = refl }) refl refl (entriesOf n t) k l)
-      (λ _. refl)) (λ _. refl)) (λ _. refl)
+      let z : OnLine (n + 1) (maxLines + 1) 0 = (omega arith, omega arith) in
+      edit-told (InEdit n) t n (refl, z) k l (refl, z) (refl, z)
+      (λ h. record {
+        steps = λ j m. let o : OnLine (n + 1) (maxLines + 1) j = (omega arith, omega arith) in
+            record { phase = (refl, o); motion = (refl, o); again = (refl, o); undeclared = (refl, o); unselected = (refl, o); arc = (refl, o) };
+        damaged = λ j m. (refl, (omega arith, omega arith));
+        short = (refl, (omega arith, omega arith));
+      })
+      (λ h m. let o : OnLine (n + 1) (maxLines + 1) k = (omega arith, omega arith) in
+      record { long = (refl, o); byte = (refl, o); form = (refl, o); range = (refl, o) })
 
-  not-edited : (e : Refusal) (i : ℕ) (v : Verdict (Span Command State) Refusal) → Refuses InEdit v → Named (n + 1) (maxLines + 1) v → onVerdict v Refused (λ s. Done (s .meeting)) ≡ Refused e i
-      → (onVerdict v (λ e i. t) (λ s. putAt t (rowWidth * (k - 1)) (tableNumbers (s .rows))) ≡ t) × InEdit e × OnLine (n + 1) (maxLines + 1) i
-  not-edited e i (accepted s) w o h = absurd (let z : _≡_ {A = ℕ} 0 1 = cc in omega arith)
-  not-edited e i (refused a j) w o h = let d : a ≡ e = cc in let z : j ≡ i = cc in (refl, subst InEdit d w, subst (OnLine (n + 1) (maxLines + 1)) z o)
+  not-edited : (e : Refusal) (i : ℕ) (v : Verdict (Span Command State) Refusal) → Told (InEdit n) v → meetingOf v ≡ Refused e i → (leavesOf t k v ≡ t) × InEdit n e i
+  not-edited e i (accepted s) w h = absurd (let z : _≡_ {A = ℕ} 0 1 = cc in omega arith)
+  not-edited e i (refused a j) w h = let d : a ≡ e = cc in let z : j ≡ i = cc in (refl, subst₂ (InEdit n) d z w)
 
   module _ (s : Span Command State) (h : editOf t n k l ≡ accepted s) where
     -- the span's rows stand inside
@@ -121,8 +124,7 @@ module _ (t : List ℤ) (n k : ℕ) (l : List ℕ) where
     inside =
         let d = edit-tests t n k l s h in
         let p = line-says n k (d .line) in
-        let c = entries-length n t in
-        let z = subst (λ (j : ℕ). SpanOf j k s) c (edit-spans (entriesOf n t) k (p .0) (omega arith) l s (d .made)) in
+        let z = span-of t n k l s h in
         record { first = p .0; span = z; few = sizes-say t n (d .sizes) .few; room = sizes-say t n (d .sizes) .room; end = omega (arith, table-length (s .rows), z .counted) }
 
     edit-left : editLeaves t n k l ≡ putAt t (rowWidth * (k - 1)) (tableNumbers (s .rows))
@@ -146,14 +148,14 @@ module _ (t : List ℤ) (n k : ℕ) (l : List ℕ) where
         put-length t (rowWidth * (k - 1)) (tableNumbers (s .rows)) (omega (arith, c .end, c .span .counted, c .span .upto, c .room))
 
   edit-length : (v : Verdict (Span Command State) Refusal) → editOf t n k l ≡ v
-      → length (onVerdict v (λ e i. t) (λ s. putAt t (rowWidth * (k - 1)) (tableNumbers (s .rows)))) ≡ length t
+      → length (leavesOf t k v) ≡ length t
   edit-length (accepted s) h = edit-kept s h
   edit-length (refused e i) h = refl
 
   pub edit-rest : EditLeavesRest t n k l
-  unfolding editAnswer editLeaves InEdit
+  unfolding editAnswer editLeaves
   edit-rest = record {
-    refused = λ e i h. not-edited e i (editOf t n k l) edit-refusals (edit-lines t n k l) h;
+    refused = λ e i h. let w = not-edited e i (editOf t n k l) edit-refusals h in (w .0, w .1 .0, w .1 .1);
     inside = λ m h.
         let d = edit-done t n k l m h in
         let c = inside (d .span) (d .verdict) in
@@ -166,38 +168,40 @@ module _ (t : List ℤ) (n k : ℕ) (l : List ℕ) where
 
 -- ---- writing
 
-InWrite : Refusal → Type 0
-InWrite e = among writeRefusals (e .number) ≡ true
+-- a refusal of a table of n rows, one of some
+abbrev pub TableRefusal : List ℕ → ℕ → Refusal → ℕ → Type 0
+TableRefusal some n e i = (among some (e .number) ≡ true) × OnLine n maxLines i
+
+pub at-zero : (n : ℕ) → OnLine n maxLines 0
+at-zero n = (omega arith, omega arith)
+
+pub rows-named : (some : List ℕ) (n : ℕ) → among some (badTable .number) ≡ true → n ≤ maxLines → (j : ℕ) → j ≤ n → TableRefusal some n badTable j
+rows-named some n h few j m = (h, (m, omega arith))
 
 module _ (t : List ℤ) (n : ℕ) (b : List ℕ) where
-  write-refusals : Refuses InWrite (rowsOf t n)
-  unfolding InWrite
-  write-refusals = rows-refuses InWrite refl t n
-
-  no-block : (x : List ℕ) (e : Refusal) (i : ℕ) (c : Bool) → pick c (Done (length x)) (Refused noRoom 0) ≡ Refused e i
-      → (pick c (putAt b 0 x) b ≡ b) × InWrite e × OnLine n maxLines i
-  unfolding InWrite
+  no-block : (x : List ℕ) (e : Refusal) (i : ℕ) (c : Bool) → cond c (Done (length x)) (Refused noRoom 0) ≡ Refused e i
+      → (cond c (putAt b 0 x) b ≡ b) × TableRefusal writeRefusals n e i
   no-block x e i true h = absurd (let z : _≡_ {A = ℕ} 0 1 = cc in omega arith)
-  no-block x e i false h = let d : noRoom ≡ e = cc in let z : 0 ≡ i = cc in (refl, subst InWrite d refl, (omega arith, omega arith))
+  no-block x e i false h = let d : noRoom ≡ e = cc in let z : 0 ≡ i = cc in (refl, subst₂ (TableRefusal writeRefusals n) d z (refl, at-zero n))
 
-  not-written : (e : Refusal) (i : ℕ) (v : Verdict Rows Refusal) → Refuses InWrite v → Named n maxLines v → onVerdict v Refused (λ rs. inBlock b (textOfRows rs)) ≡ Refused e i
-      → (onVerdict v (λ e i. b) (λ rs. withText b (textOfRows rs)) ≡ b) × InWrite e × OnLine n maxLines i
-  not-written e i (accepted rs) w o h = no-block (textOfRows rs) e i (leb (length (textOfRows rs)) (length b)) h
-  not-written e i (refused a j) w o h = let d : a ≡ e = cc in let z : j ≡ i = cc in (refl, subst InWrite d w, subst (OnLine n maxLines) z o)
+  not-written : (e : Refusal) (i : ℕ) (v : Verdict Rows Refusal) → Told (TableRefusal writeRefusals n) v → onVerdict v Refused (λ rs. inBlock b (textOfRows rs)) ≡ Refused e i
+      → (onVerdict v (λ e i. b) (λ rs. withText b (textOfRows rs)) ≡ b) × TableRefusal writeRefusals n e i
+  not-written e i (accepted rs) w h = no-block (textOfRows rs) e i (leb (length (textOfRows rs)) (length b)) h
+  not-written e i (refused a j) w h = let d : a ≡ e = cc in let z : j ≡ i = cc in (refl, subst₂ (TableRefusal writeRefusals n) d z w)
 
   write-inside : (m : ℕ) → writeAnswer t n b ≡ Done m → (m ≤ length b) × (m ≤ longestLine * n) × (n ≤ maxLines)
   write-inside m h =
       let d = write-done t n b m h in
       let g = rows-good t n (d .rows) (d .verdict) in
       let w = good-whole t n (d .rows) g in
-      (omega (arith, d .counted, d .room), omega (arith, d .counted, text-length (d .rows) (w .rows .commands), w .count), sizes-say t n (g .fits) .few)
+      (omega (arith, d .counted, d .room), omega (arith, d .counted, text-length (d .rows) (w .rows .in-range), w .count), sizes-say t n (g .fits) .few)
 
   write-beyond : (m : ℕ) → writeAnswer t n b ≡ Done m → drop m (writeLeaves t n b) ≡ drop m b
   write-beyond m h =
       let d = write-done t n b m h in
       ap (drop m) (write-writes t n b (d .rows) (d .verdict) (d .room)) ∙ put-after b 0 m (textOfRows (d .rows)) (omega (arith, d .counted)) (omega (arith, d .counted, d .room))
 
-  block-kept : (x : List ℕ) (c : Bool) → leb (length x) (length b) ≡ c → length (pick c (putAt b 0 x) b) ≡ length b
+  block-kept : (x : List ℕ) (c : Bool) → leb (length x) (length b) ≡ c → length (cond c (putAt b 0 x) b) ≡ length b
   block-kept x true h = put-length b 0 x (omega (arith, leb-true (length x) (length b) h))
   block-kept x false h = refl
 
@@ -206,9 +210,11 @@ module _ (t : List ℤ) (n : ℕ) (b : List ℕ) where
   write-length (refused e i) = refl
 
   pub write-rest : WriteLeavesRest t n b
-  unfolding writeAnswer writeLeaves InWrite
+  unfolding writeAnswer writeLeaves
   write-rest = record {
-    refused = λ e i h. not-written e i (rowsOf t n) write-refusals (rows-lines t n) h;
+    refused = λ e i h.
+        let w = not-written e i (rowsOf t n) (rows-told (TableRefusal writeRefusals n) t n (refl, at-zero n) (rows-named writeRefusals n refl)) h in
+        (w .0, w .1 .0, w .1 .1);
     inside = write-inside;
     beyond = write-beyond;
     as-many = write-length (rowsOf t n);

@@ -1,16 +1,7 @@
-pub mod Ways
-pub mod WhichRefusals
-pub mod EditSpan
 pub mod EditedLines
-pub mod InRange
 pub mod EditRows
 pub mod EditIsReading
-pub mod SameHoles
 pub mod EditTable
-pub mod WhichLines
-pub mod AcceptedFile
-pub mod WrittenTable
-pub mod GoodTables
 pub mod LeftAlone
 pub mod Demand1
 pub mod Demand2
@@ -21,4 +12,3 @@ pub mod WriteBack
 pub mod WalkStops
 pub mod WriteRefused
 pub mod GoodExactly
-pub mod PutFound

@@ -13,22 +13,22 @@ use Rattle.rules.specs.Rows.{rowWidth, tableNumbers, Good}
 use Rattle.rules.specs.Reading.{Rows, readLeaves}
 use Rattle.rules.specs.Writing.{textOfRows}
 use Rattle.obeys.proofs.Files.{obeys-iff}
-use Rattle.round.specs.Comments.{withoutComments, spelt, textWithComments}
-use Rattle.round.proofs.Lines.{spelt-fits, printable-line}
-use Rattle.round.proofs.Files.{CommandsOk, GoodRows, kept-good, text-kept, text-length, file-back, same-bytes}
+use Rattle.laws.proofs.InRange.{RowsOk}
+use Rattle.round.specs.Comments.{withoutComments, textWithComments}
+use Rattle.round.proofs.Lines.{spelt-fits, spelt-line}
+use Rattle.round.proofs.Files.{GoodRows, kept-good, text-kept, text-length, file-back, same-bytes}
 use Rattle.demands.specs.WriteBack.{ShortLines, Writes, ReadsBack, WritesBack}
-use Rattle.demands.proofs.AcceptedFile.{read-accepts, read-writes}
-use Rattle.demands.proofs.GoodTables.{file-table, good-whole}
-use Rattle.demands.proofs.WrittenTable.{good-rows, write-accepts, write-writes}
+use Rattle.answers.proofs.AcceptedFile.{read-accepts, read-writes}
+use Rattle.answers.proofs.GoodTables.{file-table, good-whole}
+use Rattle.answers.proofs.WrittenTable.{good-rows, write-accepts, write-writes}
 
 -- ---- lines
 
-lines-short : (rs : Rows) → CommandsOk rs → ShortLines (linesOf (textWithComments rs))
+lines-short : (rs : Rows) → RowsOk rs → ShortLines (linesOf (textWithComments rs))
 unfolding textWithComments linesOf
 lines-short [] h = tt
 lines-short (r ∷ rs) h =
-    let f = spelt-fits (r .command) (h .0) in
-    rw (printable-line (spelt (r .command)) (textWithComments rs) (f .printable)) (refl, f .short, lines-short rs (h .1))
+    rw (spelt-line (r .command) (h .0) (textWithComments rs)) (refl, omega (arith, spelt-fits (r .command) (h .0) .short), lines-short rs (h .2))
 
 -- ---- a good table
 
@@ -62,7 +62,7 @@ write-back t n rs g =
     record {
       writes = good-writes t n rs g;
       obeys = obeys-iff (textOfRows rs) .1 (withoutComments rs) (file-back rs (w .rows));
-      short-lines = rw (text-kept rs) (lines-short (withoutComments rs) (kept-good rs (w .rows) .commands));
-      room = omega (arith, text-length rs (w .rows .commands), w .count);
+      short-lines = rw (text-kept rs) (lines-short (withoutComments rs) (kept-good rs (w .rows) .in-range));
+      room = omega (arith, text-length rs (w .rows .in-range), w .count);
       reads-back = reads-back rs (w .rows);
     }

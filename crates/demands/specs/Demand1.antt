@@ -18,7 +18,7 @@ use Rattle.rules.specs.Rows.{rowWidth}
 use Rattle.rules.specs.Reading.{readAnswer, readLeaves}
 use Rattle.rules.specs.Editing.{editAnswer, editLeaves}
 use Rattle.rules.specs.Asking.{holeAnswer, diameterAnswer}
-use Rattle.rules.specs.Writing.{writeAnswer, writeLeaves}
+use Rattle.rules.specs.Writing.{longestLine, writeAnswer, writeLeaves}
 
 -- one of some numbers
 abbrev pub among : List ℕ → ℕ → Bool
@@ -28,10 +28,6 @@ among (m ∷ ms) n = eqb m n || among ms n
 -- a line up to the table's own, and no further than a file's lines can go; line 0 is the whole file or table
 abbrev pub OnLine : ℕ → ℕ → ℕ → Type 0
 OnLine last most i = (i ≤ last) × (i ≤ most)
-
--- bytes of the longest line that is written, with its LF
-abbrev pub longestLine : ℕ
-longestLine = 39
 
 -- the refusals of each, in the order in which they are tested
 abbrev pub readRefusals : List ℕ

@@ -2,36 +2,20 @@
 -- with its hole; it is refused exactly at its lowest faulty line. The other half is in specs/WriteBack.antt.
 use mathlib.Core.Path.{_≡_}
 use mathlib.Core.List.{List}
-use Prim.Native.Nat.{ℕ, _-_, _*_, _<_, _≤_}
+use Prim.Native.Nat.{ℕ, _*_, _<_, _≤_}
 use lib.IntN.{ℤ}
-use lib.ListN.{length, getD}
+use lib.ListN.{length}
 use Rattle.lists.specs.Put.{putAt}
-use Rattle.runs.specs.Machine.{Row, allHold}
-use Rattle.runs.specs.Agreement.{stateAfter}
-use Rattle.rules.specs.declared.Command.{Command}
-use Rattle.rules.specs.declared.Command.the-variants.{Comment}
-use Rattle.rules.specs.declared.State.{State}
+use Rattle.runs.specs.Machine.{allHold}
 use Rattle.rules.specs.declared.Refusal.{Refusal}
 use Rattle.rules.specs.declared.Answer.the-variants.{Done, Refused}
 use Rattle.rules.specs.Refusals.{noRoom}
-use Rattle.rules.specs.Numbers.{maxLines}
-use Rattle.rules.specs.State.{start}
-use Rattle.rules.specs.Rows.{rowWidth, tableNumbers, entriesOf, Good}
-use Rattle.rules.specs.Reading.{Rows, readAnswer, readLeaves}
+use Rattle.rules.specs.Rows.{rowWidth, tableNumbers, entriesOf, tableRoom, Good}
+use Rattle.rules.specs.Reading.{Rows, rowOf, stateBefore, readAnswer, readLeaves}
 use Rattle.rules.specs.Obeys.{ReadingOf, Obeys}
 use Rattle.rules.specs.Holes.{holeOf}
 use Rattle.rules.specs.Asking.{holeAnswer}
 use Rattle.obeys.specs.Faults.{Faulty}
-
--- line k's row, and the state before it; lines count from 1. Where there is no such line, it is a row like any other.
-abbrev pub noRow : Row Command State
-noRow = record { command = Comment; state = start }
-
-abbrev pub rowOf : Rows → ℕ → Row Command State
-rowOf rs k = getD rs (k - 1) noRow
-
-abbrev pub stateBefore : Rows → ℕ → State
-stateBefore rs k = stateAfter start rs (k - 1)
 
 -- the bytes bs, whose reading is rs, are read into lent numbers t as n lines
 pub record HoldsReading (bs : List ℕ) (t : List ℤ) (n : ℕ) (rs : Rows) : Type 0 where
@@ -49,10 +33,10 @@ pub data ReadRefused (bs : List ℕ) (t : List ℤ) : Refusal → ℕ → Type 0
   short : {rs : Rows} → ReadingOf bs rs → length t < rowWidth * length rs → ReadRefused bs t noRoom 0
 
 pub record ReadsRight (bs : List ℕ) (t : List ℤ) : Type 0 where
-  -- accepted exactly where it obeys and there is room for its rows; in 15,000 numbers there always is
+  -- accepted exactly where it obeys and there is room for its rows; in numbers for the longest table there always is
   pub obeys : (n : ℕ) → readAnswer bs t ≡ Done n → Obeys bs
   pub accepted : (rs : Rows) → ReadingOf bs rs → rowWidth * length rs ≤ length t → readAnswer bs t ≡ Done (length rs)
-  pub accepted-all : rowWidth * maxLines ≤ length t → (w : Obeys bs) → readAnswer bs t ≡ Done (length (w .rows))
+  pub accepted-all : tableRoom ≤ length t → (w : Obeys bs) → readAnswer bs t ≡ Done (length (w .rows))
   -- one reading, and the table holds it
   pub one-reading : (rs ss : Rows) → ReadingOf bs rs → ReadingOf bs ss → rs ≡ ss
   pub holds : (n : ℕ) (rs : Rows) → readAnswer bs t ≡ Done n → ReadingOf bs rs → HoldsReading bs t n rs

@@ -1,21 +1,11 @@
 -- The edited file of demand 3: the same bytes, with the text of line k replaced and its line end kept.
 use mathlib.Core.Path.{_≡_}
-use mathlib.Core.Bool.{true, false}
+use mathlib.Core.Bool.{false}
 use mathlib.Core.List.{List, [], _∷_, _++_}
 use Prim.Native.Nat.{ℕ, _+_}
 use lib.ListN.{length}
-use Rattle.rules.specs.Lines.{LF, Line, linesOf, endsInCR}
+use Rattle.rules.specs.Lines.{LF, linesOf, endsInCR, NoLF, AllEnded}
 use Rattle.rules.specs.Spelling.{LineEnd}
-
--- every line has its LF
-abbrev pub AllEnded : List Line → Type 0
-AllEnded [] = Unit {0}
-AllEnded (l ∷ ls) = (l .ended ≡ true) × AllEnded ls
-
--- bytes without LF
-abbrev pub NoLF : List ℕ → Type 0
-NoLF [] = Unit {0}
-NoLF (b ∷ l) = (b ≡ LF → ⊥) × NoLF l
 
 -- line k of a file: the bytes before it, which are whole lines, one fewer than k; its text; its end, to which a CR
 -- right before the LF belongs; and the bytes after it

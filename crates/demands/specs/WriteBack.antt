@@ -3,7 +3,7 @@
 use mathlib.Core.Path.{_≡_}
 use mathlib.Core.Bool.{true}
 use mathlib.Core.List.{List, [], _∷_}
-use Prim.Native.Nat.{ℕ, _*_, _≤_}
+use Prim.Native.Nat.{ℕ, _+_, _*_, _≤_}
 use lib.IntN.{ℤ}
 use lib.ListN.{length, take}
 use Rattle.lists.specs.Put.{putAt}
@@ -12,13 +12,13 @@ use Rattle.rules.specs.Lines.{Line, linesOf}
 use Rattle.rules.specs.Rows.{rowWidth, tableNumbers, Good}
 use Rattle.rules.specs.Reading.{Rows, readAnswer, readLeaves}
 use Rattle.rules.specs.Obeys.{Obeys}
-use Rattle.rules.specs.Writing.{textOfRows, writeAnswer, writeLeaves}
+use Rattle.rules.specs.Writing.{longestLine, textOfRows, writeAnswer, writeLeaves}
 use Rattle.round.specs.Comments.{withoutComments}
 
--- every line is ended, and has at most 39 bytes with its LF
+-- every line is ended, and with its LF no longer than the longest
 abbrev pub ShortLines : List Line → Type 0
 ShortLines [] = Unit {0}
-ShortLines (l ∷ ls) = (l .ended ≡ true) × (length (l .bytes) ≤ 38) × ShortLines ls
+ShortLines (l ∷ ls) = (l .ended ≡ true) × (length (l .bytes) + 1 ≤ longestLine) × ShortLines ls
 
 -- a table of n rows in numbers t is written as the text x into bytes with room for it
 pub record Writes (t : List ℤ) (n : ℕ) (x b : List ℕ) : Type 0 where
@@ -37,5 +37,5 @@ pub record WritesBack (t : List ℤ) (n : ℕ) (rs : Rows) : Type 0 where
   pub writes : (b : List ℕ) → length (textOfRows rs) ≤ length b → Writes t n (textOfRows rs) b
   pub obeys : Obeys (textOfRows rs)
   pub short-lines : ShortLines (linesOf (textOfRows rs))
-  pub room : length (textOfRows rs) ≤ 39 * n
+  pub room : length (textOfRows rs) ≤ longestLine * n
   pub reads-back : (u : List ℤ) → rowWidth * length (withoutComments rs) ≤ length u → ReadsBack rs u

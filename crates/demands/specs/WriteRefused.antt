@@ -6,7 +6,7 @@ use mathlib.Core.List.{List, _∷_, _++_}
 use Prim.Native.Nat.{ℕ, _+_, _<_, _≤_}
 use lib.IntN.{ℤ}
 use lib.ListN.{length}
-use Rattle.runs.specs.Machine.{yields, Entry, holds, bad, allHold, Follows, lastOf}
+use Rattle.runs.specs.Machine.{yields, Entry, holds, bad, allHold, lastOf, Follows, StepBy}
 use Rattle.rules.specs.declared.Command.{Command}
 use Rattle.rules.specs.declared.State.{State}
 use Rattle.rules.specs.declared.Refusal.{Refusal}
@@ -26,8 +26,8 @@ Unfit p (holds r) = taken p (r .command) ≡ yields (r .state) → ⊥
 -- unfit; or the last, where all follow and the run has not ended
 pub data NotTable (p : State) (i : ℕ) : List (Entry Command State) → ℕ → Type 0 where
   unfit : (rs : Rows) (e : Entry Command State) (es : List (Entry Command State)) {j : ℕ}
-      → Follows taken p rs → Unfit (lastOf p rs) e → i + length rs + 1 ≡ j → NotTable p i (allHold rs ++ (e ∷ es)) j
-  unended : (rs : Rows) {j : ℕ} → Follows taken p rs → hasEnded (lastOf p rs) ≡ false → i + length rs ≡ j → NotTable p i (allHold rs) j
+      → Follows (StepBy taken) p i rs → Unfit (lastOf p rs) e → i + length rs + 1 ≡ j → NotTable p i (allHold rs ++ (e ∷ es)) j
+  unended : (rs : Rows) {j : ℕ} → Follows (StepBy taken) p i rs → hasEnded (lastOf p rs) ≡ false → i + length rs ≡ j → NotTable p i (allHold rs) j
 
 -- why a table is not written, and the line
 pub data WriteRefused (t : List ℤ) (n : ℕ) (b : List ℕ) : Refusal → ℕ → Type 0 where
@@ -36,14 +36,14 @@ pub data WriteRefused (t : List ℤ) (n : ℕ) (b : List ℕ) : Refusal → ℕ 
   short : {rs : Rows} → Good t n rs → length b < length (textOfRows rs) → WriteRefused t n b noRoom 0
 
 -- a table is written as m bytes
-pub record Written (t : List ℤ) (n : ℕ) (b : List ℕ) (m : ℕ) : Type 0 where
+pub record IsWritten (t : List ℤ) (n : ℕ) (b : List ℕ) (m : ℕ) : Type 0 where
   pub rows : Rows
   pub good : Good t n rows
   pub count : m ≡ length (textOfRows rows)
   pub room : m ≤ length b
 
 pub record WritesExactly (t : List ℤ) (n : ℕ) (b : List ℕ) : Type 0 where
-  pub done : (m : ℕ) → (writeAnswer t n b ≡ Done m → Written t n b m) × (Written t n b m → writeAnswer t n b ≡ Done m)
+  pub done : (m : ℕ) → (writeAnswer t n b ≡ Done m → IsWritten t n b m) × (IsWritten t n b m → writeAnswer t n b ≡ Done m)
   pub refused : (e : Refusal) (i : ℕ) → (writeAnswer t n b ≡ Refused e i → WriteRefused t n b e i) × (WriteRefused t n b e i → writeAnswer t n b ≡ Refused e i)
   -- 18 exactly where the table isn't good
   pub not-good : ((rs : Rows) → Good t n rs → ⊥) → (i : ℕ) × (writeAnswer t n b ≡ Refused badTable i)

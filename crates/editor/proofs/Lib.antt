@@ -1,5 +1,2 @@
-pub mod Walk
-pub mod Edits
-pub mod Loops
-pub mod Take
-pub mod Whole
+pub mod Spans
+pub mod Tests

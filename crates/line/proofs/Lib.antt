@@ -1,6 +1,2 @@
-pub mod Points
-pub mod Tools
-pub mod Words
-pub mod Letters
-pub mod Bytes
-pub mod InRange
+pub mod Lines
+pub mod Texts

@@ -1,344 +1,55 @@
-// The bytes of a line to a command, in two passes at most: one tells that each byte may stand in a line, one reads it.
-// A line's first bytes say which forms it can have. Its form is decided to the line's end before any number is asked for
-// its range.
+// A line of a file: where its LF is, its text without the CR, and what it says, given its number.
 ghost use mathlib.Core.Path.{_≡_};
-ghost use mathlib.Core.List.{_++_};
-ghost use Prim.Native.Nat.{_≤_};
+ghost use Prim.Native.Nat.{_+_};
 ghost use lib.ListN.{drop};
-ghost use Rattle.lists.specs.Words.{bytes};
-ghost use Rattle.number.specs.Capped.{decimalOf, coordinateRead};
-ghost use Rattle.rules.specs.Lines.{isPrintable};
-ghost use Rattle.rules.specs.Commands.{pointForm, arcForm, toolForm, onForm, commandOf, lineOf};
-ghost use Rattle.rules.specs.Commands as C;
-ghost use Rattle.line.specs.Parts.{PairAt, placed, pointed, pointCommand, turned, turnCommand, same, word, declareAt, codeOf, codeCommand};
-use number::CoordinateRead;
-use number::Number;
-use number::SizeRead;
-use number::Written;
-use rules::Arc;
+ghost use Rattle.rules.specs.Lines.{textOf, isPrintable};
+ghost use Rattle.rules.specs.Commands.{saysNo, lineOf};
+ghost use Rattle.rules.specs.Reading.{answerIn};
+ghost use Rattle.line.specs.Line.{lineOfBytes, findLF};
 use rules::Command;
+use rules::FORBIDDEN_BYTE;
+use rules::LINE_NOT_ENDED;
+use rules::LINE_TOO_LONG;
 use rules::LineAnswer;
-use rules::Point;
+use rules::MAX_LINE;
+use rules::MAX_LINES;
 use rules::Refusal;
+use rules::TOO_MANY_LINES;
 
-// X, a number, Y, a number, as they are written.
-struct Pair {
-    x: Written,
-    y: Written,
-}
-
-enum PairRead {
-    Got(Pair),
-    None,
-}
-
-// The point that such a pair is, or that it is out of range.
-enum Placed {
-    Is(Point),
-    Out,
-}
-
-// The commands that have a point alone.
-enum Pointed {
-    G00,
-    Hit,
-    G01,
-}
-
-// The commands that have a point and a radius.
-enum Turned {
-    G02,
-    G03,
-}
-
-// The commands that are M and two digits.
-enum Code {
-    M15,
-    M16,
-    M30,
-    M48,
-}
-
-enum CodeRead {
-    Is(Code),
-    None,
-}
-
-fn says(c: Command) -> LineAnswer
-    ensures { λ r. ⌜ r ≡ C.says c ⌝ }
+/// Where the line that begins at `from` has its LF, or the file's end; past the end it is `from` itself.
+pub fn find_lf(file: &[u8], from: usize) -> usize
+    ensures { λ r. ⌜ r ≡ from + findLF (drop from (now (file .entry))) ⌝ }
 {
-    LineAnswer {
-        refusal: rules::NONE,
-        command: c,
+    let mut i = from;
+    while i < file.len() {
+        if file[i] == b'\n' {
+            return i;
+        }
+        i += 1;
     }
+    i
 }
 
-fn says_no(e: Refusal) -> LineAnswer
-    ensures { λ r. ⌜ r ≡ C.saysNo e ⌝ }
+/// A line's bytes without the one CR that belongs to its end.
+pub fn text_of(line: &[u8]) -> &[u8]
+    ensures { λ r. ⌜ (now r ≡ textOf (now (line .entry))) × (r .ptr ≡ line .entry .ptr) ⌝ }
+{
+    let n = line.len();
+    if 0 < n {
+        if line[n - 1] == b'\r' {
+            return &line[..n - 1];
+        }
+    }
+    line
+}
+
+fn says_no(refusal: Refusal) -> LineAnswer
+    ensures { λ r. ⌜ r ≡ saysNo refusal ⌝ }
 {
     LineAnswer {
-        refusal: e,
+        refusal: refusal,
         command: Command::Comment,
     }
-}
-
-// X, a number, Y, a number from the place `at` on.
-fn pair_at(s: &[u8], at: usize) -> PairRead
-    ensures { λ r. ⌜ PairAt (now (s .entry)) at r ⌝ }
-{
-    if !number::stands(s, at, b'X') {
-        return PairRead::None;
-    }
-    let Number::Got(x) = number::signed(s, at + 1) else {
-        return PairRead::None;
-    };
-    let middle = x.next;
-    if !number::stands(s, middle, b'Y') {
-        return PairRead::None;
-    }
-    let Number::Got(y) = number::signed(s, middle + 1) else {
-        return PairRead::None;
-    };
-    PairRead::Got(Pair { x: x, y: y })
-}
-
-fn place(p: Pair) -> Placed
-    ensures { λ r. ⌜ r ≡ placed (coordinateRead (decimalOf (p .x))) (coordinateRead (decimalOf (p .y))) ⌝ }
-{
-    let CoordinateRead::Is(x) = number::coordinate(p.x) else {
-        return Placed::Out;
-    };
-    let CoordinateRead::Is(y) = number::coordinate(p.y) else {
-        return Placed::Out;
-    };
-    Placed::Is(Point { x: x, y: y })
-}
-
-fn point_command(kind: Pointed, p: Point) -> Command
-    ensures { λ r. ⌜ r ≡ pointCommand kind p ⌝ }
-{
-    match kind {
-        Pointed::G00 => Command::G00(p),
-        Pointed::Hit => Command::Hit(p),
-        Pointed::G01 => Command::G01(p),
-    }
-}
-
-fn turn_command(kind: Turned, a: Arc) -> Command
-    ensures { λ r. ⌜ r ≡ turnCommand kind a ⌝ }
-{
-    match kind {
-        Turned::G02 => Command::G02(a),
-        Turned::G03 => Command::G03(a),
-    }
-}
-
-// X#Y# from the place `at` to the line's end.
-fn point_line(s: &[u8], at: usize, kind: Pointed) -> LineAnswer
-    ensures { λ r. ⌜ r ≡ onForm (pointForm (drop at (now (s .entry))) (pointed kind)) ⌝ }
-{
-    let PairRead::Got(p) = pair_at(s, at) else {
-        return says_no(rules::NO_SUCH_FORM);
-    };
-    let y = p.y;
-    if y.next != s.len() {
-        return says_no(rules::NO_SUCH_FORM);
-    }
-    let Placed::Is(to) = place(p) else {
-        return says_no(rules::OUT_OF_RANGE);
-    };
-    says(point_command(kind, to))
-}
-
-// X#Y#A# from the place `at` to the line's end.
-fn arc_line(s: &[u8], at: usize, kind: Turned) -> LineAnswer
-    ensures { λ r. ⌜ r ≡ onForm (arcForm (drop at (now (s .entry))) (turned kind)) ⌝ }
-{
-    let PairRead::Got(p) = pair_at(s, at) else {
-        return says_no(rules::NO_SUCH_FORM);
-    };
-    let y = p.y;
-    let end = y.next;
-    if !number::stands(s, end, b'A') {
-        return says_no(rules::NO_SUCH_FORM);
-    }
-    let Number::Got(a) = number::unsigned(s, end + 1) else {
-        return says_no(rules::NO_SUCH_FORM);
-    };
-    if a.next != s.len() {
-        return says_no(rules::NO_SUCH_FORM);
-    }
-    let Placed::Is(to) = place(p) else {
-        return says_no(rules::OUT_OF_RANGE);
-    };
-    let SizeRead::Is(radius) = number::size(a) else {
-        return says_no(rules::OUT_OF_RANGE);
-    };
-    says(turn_command(
-        kind,
-        Arc {
-            to: to,
-            radius: radius,
-        },
-    ))
-}
-
-// The diameter that `tool` is declared with, from the place `at` to the line's end.
-fn declare_line(s: &[u8], at: usize, tool: u32) -> LineAnswer
-    requires { ⌜ tool ≤ 99 ⌝ }
-    ensures { λ r. ⌜ r ≡ onForm (declareAt (drop at (now (s .entry))) tool) ⌝ }
-{
-    let Number::Got(d) = number::unsigned(s, at) else {
-        return says_no(rules::NO_SUCH_FORM);
-    };
-    if d.next != s.len() {
-        return says_no(rules::NO_SUCH_FORM);
-    }
-    if tool == 0 {
-        return says_no(rules::OUT_OF_RANGE);
-    }
-    let SizeRead::Is(diameter) = number::size(d) else {
-        return says_no(rules::OUT_OF_RANGE);
-    };
-    says(Command::Declare(tool, diameter))
-}
-
-// T, one or two digits; or T, two digits, C, a number. How many digits there are is form.
-fn tool_line(s: &[u8]) -> LineAnswer
-    ensures { λ r. ⌜ r ≡ onForm (toolForm (drop 1 (now (s .entry)))) ⌝ }
-{
-    let t = number::run_at(s, 1);
-    let end = t.next;
-    let value = t.value;
-    if number::stands(s, end, b'C') {
-        if end != 3 {
-            return says_no(rules::NO_SUCH_FORM);
-        }
-        return declare_line(s, end + 1, value);
-    }
-    if end == 1 {
-        return says_no(rules::NO_SUCH_FORM);
-    }
-    if 3 < end {
-        return says_no(rules::NO_SUCH_FORM);
-    }
-    if end != s.len() {
-        return says_no(rules::NO_SUCH_FORM);
-    }
-    if value == 0 {
-        return says_no(rules::OUT_OF_RANGE);
-    }
-    says(Command::Select(value))
-}
-
-// Are the bytes from the place `at` on the word w?
-fn is_word(s: &[u8], at: usize, w: &[u8]) -> bool
-    ensures { λ r. ⌜ r ≡ same (drop at (now (s .entry))) (now (w .entry)) ⌝ }
-{
-    if s.len() < at {
-        return w.len() == 0;
-    }
-    if s.len() - at != w.len() {
-        return false;
-    }
-    let mut i = 0;
-    while i < w.len() {
-        if s[at + i] != w[i] {
-            return false;
-        }
-        i += 1;
-    }
-    true
-}
-
-// A line whose bytes from the place `at` on are the word w, or no form.
-fn word_line(s: &[u8], at: usize, w: &[u8], c: Command) -> LineAnswer
-    ensures { λ r. ⌜ r ≡ word (drop at (now (s .entry))) (now (w .entry)) c ⌝ }
-{
-    if is_word(s, at, w) {
-        return says(c);
-    }
-    says_no(rules::NO_SUCH_FORM)
-}
-
-fn code_command(k: Code) -> Command
-    ensures { λ r. ⌜ r ≡ codeCommand k ⌝ }
-{
-    match k {
-        Code::M15 => Command::M15,
-        Code::M16 => Command::M16,
-        Code::M30 => Command::M30,
-        Code::M48 => Command::M48,
-    }
-}
-
-// The code of M and two digits.
-fn code_of(a: u8, b: u8) -> CodeRead
-    ensures { λ r. ⌜ r ≡ codeOf a b ⌝ }
-{
-    match a {
-        b'1' => match b {
-            b'5' => CodeRead::Is(Code::M15),
-            b'6' => CodeRead::Is(Code::M16),
-            _ => CodeRead::None,
-        },
-        b'3' => match b {
-            b'0' => CodeRead::Is(Code::M30),
-            _ => CodeRead::None,
-        },
-        b'4' => match b {
-            b'8' => CodeRead::Is(Code::M48),
-            _ => CodeRead::None,
-        },
-        _ => CodeRead::None,
-    }
-}
-
-// A line that begins with M.
-fn m_line(s: &[u8]) -> LineAnswer
-    ensures { λ r. ⌜ r ≡ commandOf (bytes "M" ++ drop 1 (now (s .entry))) ⌝ }
-{
-    if s.len() != 3 {
-        return word_line(s, 1, b"ETRIC", Command::Metric);
-    }
-    let CodeRead::Is(k) = code_of(s[1], s[2]) else {
-        return says_no(rules::NO_SUCH_FORM);
-    };
-    says(code_command(k))
-}
-
-// A line that begins with G.
-fn g_line(s: &[u8]) -> LineAnswer
-    ensures { λ r. ⌜ r ≡ commandOf (bytes "G" ++ drop 1 (now (s .entry))) ⌝ }
-{
-    if s.len() < 3 {
-        return says_no(rules::NO_SUCH_FORM);
-    }
-    if s[1] != b'0' {
-        return says_no(rules::NO_SUCH_FORM);
-    }
-    match s[2] {
-        b'0' => point_line(s, 3, Pointed::G00),
-        b'1' => point_line(s, 3, Pointed::G01),
-        b'2' => arc_line(s, 3, Turned::G02),
-        b'3' => arc_line(s, 3, Turned::G03),
-        b'5' => word_line(s, 3, b"", Command::G05),
-        _ => says_no(rules::NO_SUCH_FORM),
-    }
-}
-
-// After its `;` a comment holds no second one.
-fn comment_line(s: &[u8]) -> LineAnswer
-    ensures { λ r. ⌜ r ≡ onForm (C.commentForm (drop 1 (now (s .entry)))) ⌝ }
-{
-    let mut i = 1;
-    while i < s.len() {
-        if s[i] == b';' {
-            return says_no(rules::NO_SUCH_FORM);
-        }
-        i += 1;
-    }
-    says(Command::Comment)
 }
 
 // Are all bytes in 32 to 126?
@@ -359,33 +70,28 @@ fn printable(s: &[u8]) -> bool
     true
 }
 
-fn command(s: &[u8]) -> LineAnswer
-    ensures { λ r. ⌜ r ≡ commandOf (now (s .entry)) ⌝ }
-{
-    if s.len() == 0 {
-        return says_no(rules::NO_SUCH_FORM);
-    }
-    match s[0] {
-        b'X' => point_line(s, 0, Pointed::Hit),
-        b'G' => g_line(s),
-        b'M' => m_line(s),
-        b'T' => tool_line(s),
-        b'%' => word_line(s, 1, b"", Command::Percent),
-        b';' => comment_line(s),
-        b'I' => word_line(s, 1, b"NCH", Command::Inch),
-        _ => says_no(rules::NO_SUCH_FORM),
-    }
-}
-
-/// What the bytes of a line without its end say: a command, or the refusal 6, 4, 5 or 7, the first that there is ground for.
-pub fn read_line(text: &[u8]) -> LineAnswer
+/// What a line's text says: a command, or the refusal 6, 4, 5 or 7, the first that there is ground for.
+pub fn read(text: &[u8]) -> LineAnswer
     ensures { λ r. ⌜ r ≡ lineOf (now (text .entry)) ⌝ }
 {
-    if rules::MAX_LINE < text.len() {
-        return says_no(rules::LINE_TOO_LONG);
+    if MAX_LINE < text.len() {
+        return says_no(LINE_TOO_LONG);
     }
     if !printable(text) {
-        return says_no(rules::FORBIDDEN_BYTE);
+        return says_no(FORBIDDEN_BYTE);
     }
-    command(text)
+    command::read(text)
+}
+
+/// What a line of a file says, given its number, its bytes up to its LF, and whether the LF is there: 2, 3, then its text's own.
+pub fn answer(number: usize, line: &[u8], ended: bool) -> LineAnswer
+    ensures { λ r. ⌜ r ≡ answerIn number (lineOfBytes (now (line .entry)) ended) ⌝ }
+{
+    if MAX_LINES < number {
+        return says_no(TOO_MANY_LINES);
+    }
+    if !ended {
+        return says_no(LINE_NOT_ENDED);
+    }
+    read(text_of(line))
 }

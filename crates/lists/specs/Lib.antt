@@ -1,3 +1,2 @@
-pub mod Choice
 pub mod Put
 pub mod Words

@@ -12,8 +12,8 @@ use Rattle.rules.specs.declared.Hole.{Hole}
 use Rattle.rules.specs.declared.HoleAnswer.{HoleAnswer}
 use Rattle.rules.specs.declared.HoleAnswer.the-variants.{Makes, Nothing, Refused}
 use Rattle.rules.proofs.HoleAnswer.{the-type}
-use Rattle.rules.specs.State.{samePoint}
-use Rattle.rules.proofs.Same.{same-point-iff}
+use Rattle.points.specs.Points.{samePoint}
+use Rattle.points.proofs.Same.{same-point-iff}
 use Rattle.moves.specs.Moves.{sameHole, makesOne, differ}
 
 -- ---- two holes

@@ -4,7 +4,7 @@ use lib.Dec.{eqb}
 use Rattle.rules.specs.declared.Hole.{Hole}
 use Rattle.rules.specs.declared.HoleAnswer.{HoleAnswer}
 use Rattle.rules.specs.declared.HoleAnswer.the-variants.{Makes, Nothing, Refused}
-use Rattle.rules.specs.State.{samePoint}
+use Rattle.points.specs.Points.{samePoint}
 
 unfoldable pub sameHole : Hole → Hole → Bool
 sameHole a b =

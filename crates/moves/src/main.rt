@@ -8,8 +8,10 @@ use rules::DiameterAnswer;
 use rules::FILE_TOO_LONG;
 use rules::Hole;
 use rules::HoleAnswer;
+use rules::MAX_FILE;
 use rules::MAX_TOOL;
 use rules::NO_SUCH_LINE;
+use rules::TABLE_ROOM;
 use show::Input;
 use show::InputLine;
 
@@ -122,23 +124,12 @@ fn print_count(count: usize) {
     show::numbers(b"moved", &fields);
 }
 
-fn copy(to: &mut [i32], from: &[i32]) {
-    let mut i = 0;
-    while i < to.len() {
-        if i == from.len() {
-            return;
-        }
-        to[i] = from[i];
-        i += 1;
-    }
-}
-
 // The edit goes into a copy, so that both tables can be asked.
 fn try_edit(old: &[i32], n: usize, line: usize, text: &[u8])
     requires { ⌜ 1 ≤ line ⌝ }
 {
-    let mut new = [0i32; 15000];
-    copy(&mut new, old);
+    let mut new = [0i32; TABLE_ROOM];
+    table::copy(&mut new, 0, old);
     match editor::edit(&mut new, n, line, text) {
         Answer::Refused(refusal, at) => show::refused(refusal, at),
         Answer::Done(meeting) => {
@@ -196,7 +187,7 @@ fn answer(old: &[i32], n: usize, first: &[u8]) {
 }
 
 fn report(first: &[u8], file: &[u8]) {
-    let mut old = [0i32; 15000];
+    let mut old = [0i32; TABLE_ROOM];
     match reader::read(file, &mut old) {
         Answer::Refused(refusal, line) => show::refused(refusal, line),
         Answer::Done(n) => answer(&old, n, first),
@@ -205,29 +196,18 @@ fn report(first: &[u8], file: &[u8]) {
 
 fn read_file(first: &[u8]) {
     // One byte more than a file may have, so that a longer one is seen.
-    let mut file = [0u8; 65537];
+    let mut file = [0u8; MAX_FILE + 1];
     match show::read_input(&mut file) {
         Input::Bytes(got) => report(first, &file[..got]),
         Input::Failed => {}
     }
 }
 
-// A line's bytes without the one CR that may stand before its LF.
-fn text_of(line: &[u8]) -> &[u8] {
-    let n = line.len();
-    if 0 < n {
-        if line[n - 1] == b'\r' {
-            return &line[..n - 1];
-        }
-    }
-    line
-}
-
 fn main() {
     // More than a number, a tab and the longest new line: what doesn't fit would be refused anyway.
     let mut first = [0u8; 1024];
     match show::read_line(&mut first) {
-        InputLine::Bytes(got) => read_file(text_of(&first[..got])),
+        InputLine::Bytes(got) => read_file(line::text_of(&first[..got])),
         InputLine::TooLong => show::refused(FILE_TOO_LONG, 0),
         InputLine::Failed => {}
     }

@@ -1,6 +1,6 @@
 -- Which numbers are in range: the code's tests one by one, and that a capped number is in range exactly where the exact one is.
-use mathlib.Core.Path.{_≡_, refl, sym, ap, _∙_}
-use mathlib.Core.Bool.{Bool, true, false, _&&_}
+use mathlib.Core.Path.{_≡_, sym, ap, _∙_}
+use mathlib.Core.Bool.{true, false, and-false}
 use Prim.Native.Nat.{ℕ, zero, suc, _-_, _*_, _^_, _<_, _≤_}
 use native.Mathlib.Omega.{arith}
 use native.Mathlib.Nat.{le-mul-of-pos-right, one-le-pow}
@@ -12,51 +12,52 @@ use lib.Signed.{mag}
 use mir.Syntax.{w32}
 use mir.Val.{SFits, toZ, ofZ}
 use mir.ValLaws.{toZ-pos, toZ-ofZ}
-use Rattle.rules.specs.Numbers.{Decimal, millionths, isCoordinate, coordinateOf, isSize}
+use Rattle.rules.specs.Numbers.{maxPlaces, maxNumber, Decimal, millionths, isCoordinate, coordinateOf, isSize}
 use Rattle.number.specs.declared.Written.{Written}
 use Rattle.number.specs.declared.CoordinateRead.the-variants as C
 use Rattle.number.specs.declared.SizeRead.the-variants as S
-use Rattle.number.specs.Capped.{cap, Holds, decimalOf, coordinateRead, sizeRead}
+use Rattle.number.specs.Capped.{cap, HeldAs, decimalOf, coordinateRead, sizeRead}
 
--- ---- a number below 2^31 as an i32, and negated
+-- ---- a number in range as an i32, and negated
 
-neg-mag : (n : ℕ) → n ≤ 999999999 → mag (negℤ (pos n)) < 2147483648
-neg-mag zero h = omega arith
-neg-mag (suc n) h = omega arith
+module _ (n : ℕ) (h : n ≤ maxNumber) where
+  plus-i32 : toZ w32 n ≡ pos n
+  plus-i32 = toZ-pos w32 n (omega arith)
 
-plus-i32 : (n : ℕ) → n ≤ 999999999 → toZ w32 n ≡ pos n
-plus-i32 n h = toZ-pos w32 n (omega arith)
+  pub minus-fits : SFits w32 (pos 0 -ℤ toZ w32 n)
+  minus-fits = rw (plus-i32, +ℤ-idl (negℤ (pos n))) (record { sfits = small n h })
+    where
+      small : (n : ℕ) → n ≤ maxNumber → mag (negℤ (pos n)) < 2 ^ 31
+      small zero h = omega arith
+      small (suc n) h = omega arith
 
-pub minus-fits : (n : ℕ) → n ≤ 999999999 → SFits w32 (pos 0 -ℤ toZ w32 n)
-minus-fits n h = rw (plus-i32 n h, +ℤ-idl (negℤ (pos n))) (record { sfits = neg-mag n h })
-
-minus-i32 : (n : ℕ) → n ≤ 999999999 → toZ w32 (ofZ w32 (pos 0 -ℤ toZ w32 n)) ≡ negℤ (pos n)
-minus-i32 n h = toZ-ofZ w32 _ (minus-fits n h) ∙ ap (λ (z : ℤ). pos 0 -ℤ z) (plus-i32 n h) ∙ +ℤ-idl (negℤ (pos n))
+  minus-i32 : toZ w32 (ofZ w32 (pos 0 -ℤ toZ w32 n)) ≡ negℤ (pos n)
+  minus-i32 = toZ-ofZ w32 _ minus-fits ∙ ap (λ (z : ℤ). pos 0 -ℤ z) plus-i32 ∙ +ℤ-idl (negℤ (pos n))
 
 -- ---- the tests
 
 module _ (d : Decimal) where
-  pub coordinate-places : 6 < d .places → C.Out ≡ coordinateRead d
+  pub coordinate-places : maxPlaces < d .places → C.Out ≡ coordinateRead d
   unfolding coordinateRead isCoordinate
-  coordinate-places h = rw (lt-leb (d .places) 6 h)
+  coordinate-places h = rw (lt-leb (d .places) maxPlaces h)
 
-  pub size-places : 6 < d .places → S.Out ≡ sizeRead d
+  pub size-places : maxPlaces < d .places → S.Out ≡ sizeRead d
   unfolding sizeRead isSize
-  size-places h = rw (lt-leb (d .places) 6 h)
+  size-places h = rw (lt-leb (d .places) maxPlaces h)
 
-  module _ (h : d .places ≤ 6) (n : ℕ) (e : n ≡ d .digits * 10 ^ (6 - d .places)) where
-    pub coordinate-large : 999999999 < n → C.Out ≡ coordinateRead d
+  module _ (h : d .places ≤ maxPlaces) (n : ℕ) (e : n ≡ d .digits * 10 ^ (maxPlaces - d .places)) where
+    pub coordinate-large : maxNumber < n → C.Out ≡ coordinateRead d
     unfolding coordinateRead isCoordinate millionths
-    coordinate-large k = rw (le-leb (d .places) 6 h, ← e, lt-leb n 999999999 k)
+    coordinate-large k = rw (le-leb (d .places) maxPlaces h, ← e, lt-leb n maxNumber k)
 
     pub size-zero : n ≡ 0 → S.Out ≡ sizeRead d
     unfolding sizeRead isSize millionths
-    size-zero k = rw (le-leb (d .places) 6 h, ← e, lt-leb 1 n (omega arith))
+    size-zero k = rw (le-leb (d .places) maxPlaces h, ← e, lt-leb 1 n (omega arith))
 
-    module _ (k : n ≤ 999999999) where
+    module _ (k : n ≤ maxNumber) where
       coordinate-is : coordinateRead d ≡ C.Is (coordinateOf d)
       unfolding coordinateRead isCoordinate millionths
-      coordinate-is = rw (le-leb (d .places) 6 h, ← e, le-leb n 999999999 k)
+      coordinate-is = rw (le-leb (d .places) maxPlaces h, ← e, le-leb n maxNumber k)
 
       pub coordinate-minus : d .negative ≡ true → C.Is (toZ w32 (ofZ w32 (pos 0 -ℤ toZ w32 n))) ≡ coordinateRead d
       unfolding coordinateOf millionths
@@ -67,48 +68,37 @@ module _ (d : Decimal) where
       coordinate-plus m = rw (coordinate-is, m, ← e, plus-i32 n k)
 
     module _ (f : n ≡ 0 → ⊥) where
-      pub size-large : 999999999 < n → S.Out ≡ sizeRead d
+      pub size-large : maxNumber < n → S.Out ≡ sizeRead d
       unfolding sizeRead isSize millionths
-      size-large k = rw (le-leb (d .places) 6 h, ← e, le-leb 1 n (omega arith), lt-leb n 999999999 k)
+      size-large k = rw (le-leb (d .places) maxPlaces h, ← e, le-leb 1 n (omega arith), lt-leb n maxNumber k)
 
-      pub size-is : n ≤ 999999999 → S.Is n ≡ sizeRead d
+      pub size-is : n ≤ maxNumber → S.Is n ≡ sizeRead d
       unfolding sizeRead isSize millionths
-      size-is k = rw (le-leb (d .places) 6 h, ← e, le-leb 1 n (omega arith), le-leb n 999999999 k)
+      size-is k = rw (le-leb (d .places) maxPlaces h, ← e, le-leb 1 n (omega arith), le-leb n maxNumber k)
 
 -- ---- capped and exact agree: from 10^9 on both are out of range
 
-and-no : (t : Bool) {u : Bool} → u ≡ false → t && u ≡ false
-and-no true e = e
-and-no false e = refl
-
-over : (d : Decimal) → cap ≤ d .digits → leb (millionths d) 999999999 ≡ false
+over : (d : Decimal) → cap ≤ d .digits → leb (millionths d) maxNumber ≡ false
 unfolding millionths
 over d h =
-    lt-leb (d .digits * 10 ^ (6 - d .places)) 999999999
-    (omega (arith, le-mul-of-pos-right {m = 10 ^ (6 - d .places)} (d .digits) (one-le-pow (6 - d .places) 10 (omega arith))))
+    lt-leb (d .digits * 10 ^ (maxPlaces - d .places)) maxNumber
+    (omega (arith, le-mul-of-pos-right {m = 10 ^ (maxPlaces - d .places)} (d .digits) (one-le-pow (maxPlaces - d .places) 10 (omega arith))))
 
-coordinate-over : (d : Decimal) → cap ≤ d .digits → coordinateRead d ≡ C.Out
+-- whatever is the same for all numbers from there on
+exact : {A : Type 0} (f : Decimal → A) (out : A) → ((d : Decimal) → cap ≤ d .digits → f d ≡ out)
+    → (w : Written) (d : Decimal) → HeldAs w d → f (decimalOf w) ≡ f d
+exact f out same w d r = go (decLt (d .digits) cap)
+  where
+    go : Dec (d .digits < cap) → f (decimalOf w) ≡ f d
+    go (yes h) =
+        let e : w .digits ≡ d .digits = omega arith in
+        ap f (λ i. record { negative = r .negative-is i; digits = e i; places = r .places-is i })
+    go (no h) = same (decimalOf w) (omega arith) ∙ sym (same d (omega arith))
+
+pub coordinate-exact : (w : Written) (d : Decimal) → HeldAs w d → coordinateRead (decimalOf w) ≡ coordinateRead d
 unfolding coordinateRead isCoordinate
-coordinate-over d h = rw (and-no (leb (d .places) 6) (over d h))
+coordinate-exact = exact coordinateRead C.Out (λ d h. rw (over d h, and-false))
 
-size-over : (d : Decimal) → cap ≤ d .digits → sizeRead d ≡ S.Out
+pub size-exact : (w : Written) (d : Decimal) → HeldAs w d → sizeRead (decimalOf w) ≡ sizeRead d
 unfolding sizeRead isSize
-size-over d h = rw (and-no (leb (d .places) 6) (and-no (leb 1 (millionths d)) (over d h)))
-
-module _ (w : Written) (d : Decimal) (r : Holds w d) where
-  exact : d .digits < cap → decimalOf w ≡ d
-  exact h = let e : w .digits ≡ d .digits = omega arith in λ i. record { negative = r .negative-is i; digits = e i; places = r .places-is i }
-
-  pub coordinate-exact : coordinateRead (decimalOf w) ≡ coordinateRead d
-  coordinate-exact = go (decLt (d .digits) cap)
-    where
-      go : Dec (d .digits < cap) → coordinateRead (decimalOf w) ≡ coordinateRead d
-      go (yes h) = ap coordinateRead (exact h)
-      go (no h) = coordinate-over (decimalOf w) (omega arith) ∙ sym (coordinate-over d (omega arith))
-
-  pub size-exact : sizeRead (decimalOf w) ≡ sizeRead d
-  size-exact = go (decLt (d .digits) cap)
-    where
-      go : Dec (d .digits < cap) → sizeRead (decimalOf w) ≡ sizeRead d
-      go (yes h) = ap sizeRead (exact h)
-      go (no h) = size-over (decimalOf w) (omega arith) ∙ sym (size-over d (omega arith))
+size-exact = exact sizeRead S.Out (λ d h. rw (over d h, and-false, and-false))

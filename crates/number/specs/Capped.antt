@@ -1,11 +1,11 @@
 -- A number as the code holds it: its digits as one number, exact below 1,000,000,000, which stands for all from there on
 -- (such a number is out of every range), and the place after it in place of the bytes after it.
 use mathlib.Core.Path.{_≡_}
+use mathlib.Core.Bool.{cond}
 use mathlib.Core.List.{List}
 use Prim.Native.Nat.{ℕ, _+_, _-_, _*_, _^_, _≤_, min}
 use lib.ListN.{length, drop}
-use Rattle.lists.specs.Choice.{pick}
-use Rattle.rules.specs.Numbers.{DigitRun, Decimal, Reading, got, none, millionths, isCoordinate, coordinateOf, isSize}
+use Rattle.rules.specs.Numbers.{DigitRun, Decimal, NumberRead, got, no-number, millionths, isCoordinate, coordinateOf, isSize}
 use Rattle.number.specs.declared.Run.{Run}
 use Rattle.number.specs.declared.Written.{Written}
 use Rattle.number.specs.declared.Number.{Number}
@@ -23,25 +23,25 @@ abbrev pub pushed : ℕ → ℕ → ℕ
 pushed n d = min (n * 10 + d) cap
 
 -- the digits after those of the number c, from the place at on
-abbrev pub runFrom : ℕ → ℕ → DigitRun → Run
-runFrom at c w = record { value = min (c * 10 ^ w .count + w .value) cap; next = at + w .count }
+abbrev pub heldRun : ℕ → ℕ → DigitRun → Run
+heldRun at c w = record { value = min (c * 10 ^ w .count + w .value) cap; next = at + w .count }
 
 -- a number in n bytes
-abbrev pub numberAt : ℕ → Reading → Number
+abbrev pub numberAt : ℕ → NumberRead → Number
 numberAt n (got d rest) =
     Got (record { negative = d .negative; digits = min (d .digits) cap; places = d .places; next = n - length rest })
-numberAt n none = None
+numberAt n no-number = None
 
 -- a decimal as it is held, and a reading: where the held number ends the bytes after it begin
-pub record Holds (w : Written) (d : Decimal) : Type 0 where
+pub record HeldAs (w : Written) (d : Decimal) : Type 0 where
   pub negative-is : w .negative ≡ d .negative
   pub digits-is : w .digits ≡ min (d .digits) cap
   pub places-is : w .places ≡ d .places
 
-pub record Reads (s : List ℕ) (r : Reading) (w : Written) : Type 0 where
+pub record ReadsTo (s : List ℕ) (r : NumberRead) (w : Written) : Type 0 where
   pub decimal : Decimal
   pub reading : r ≡ got decimal (drop (w .next) s)
-  pub holds : Holds w decimal
+  pub holds : HeldAs w decimal
   pub within : w .next ≤ length s
 
 -- the number that is held
@@ -50,7 +50,7 @@ decimalOf w = record { negative = w .negative; digits = w .digits; places = w .p
 
 -- what a number is as a coordinate, and as a diameter or radius
 unfoldable pub coordinateRead : Decimal → CoordinateRead
-coordinateRead d = pick (isCoordinate d) (C.Is (coordinateOf d)) C.Out
+coordinateRead d = cond (isCoordinate d) (C.Is (coordinateOf d)) C.Out
 
 unfoldable pub sizeRead : Decimal → SizeRead
-sizeRead d = pick (isSize d) (S.Is (millionths d)) S.Out
+sizeRead d = cond (isSize d) (S.Is (millionths d)) S.Out

@@ -5,8 +5,8 @@ ghost use mathlib.Core.List.{[], _∷_};
 ghost use Prim.Native.Nat.{_<_, _≤_, _*_, _^_, _-_};
 ghost use lib.ListN.{length, drop};
 ghost use Rattle.lists.specs.Words.{startsWith};
-ghost use Rattle.rules.specs.Numbers.{digitsOf, magnitudeOf, unsignedOf, signedOf};
-ghost use Rattle.number.specs.Capped.{cap, pushed, runFrom, numberAt, decimalOf, coordinateRead, sizeRead};
+ghost use Rattle.rules.specs.Numbers.{maxPlaces, digitsOf, magnitudeOf, unsignedOf, signedOf};
+ghost use Rattle.number.specs.Capped.{cap, pushed, heldRun, numberAt, decimalOf, coordinateRead, sizeRead};
 
 // Most digits after the point.
 const MAX_PLACES: usize = 6;
@@ -29,6 +29,7 @@ pub struct Written {
     pub next: usize,
 }
 
+/// A number as it is written, or that none begins here.
 pub enum Number {
     Got(Written),
     None,
@@ -71,7 +72,7 @@ fn push(value: u32, d: u32) -> u32
 // The digits from the place `at` on, as further digits of the number `from`.
 fn digits(s: &[u8], at: usize, from: u32) -> Run
     requires { ⌜ from ≤ cap ⌝ }
-    ensures { λ r. ⌜ (r ≡ runFrom at from (digitsOf (drop at (now (s .entry))))) × (r .value ≤ cap) × (at ≤ r .next) ⌝ }
+    ensures { λ r. ⌜ (r ≡ heldRun at from (digitsOf (drop at (now (s .entry))))) × (r .value ≤ cap) × (at ≤ r .next) ⌝ }
 {
     let mut value = from;
     let mut i = at;
@@ -100,7 +101,7 @@ fn digits(s: &[u8], at: usize, from: u32) -> Run
 
 /// The digits from the place `at` on.
 pub fn run_at(s: &[u8], at: usize) -> Run
-    ensures { λ r. ⌜ (r ≡ runFrom at 0 (digitsOf (drop at (now (s .entry))))) × (r .value ≤ cap) × (at ≤ r .next) ⌝ }
+    ensures { λ r. ⌜ (r ≡ heldRun at 0 (digitsOf (drop at (now (s .entry))))) × (r .value ≤ cap) × (at ≤ r .next) ⌝ }
 {
     digits(s, at, 0)
 }
@@ -158,8 +159,8 @@ pub fn signed(s: &[u8], at: usize) -> Number
 
 // A number of at most six places in whole millionths.
 fn millionths(digits: u32, places: usize) -> u64
-    requires { ⌜ places ≤ 6 ⌝ }
-    ensures { λ r. ⌜ r ≡ digits * 10 ^ (6 - places) ⌝ }
+    requires { ⌜ places ≤ maxPlaces ⌝ }
+    ensures { λ r. ⌜ r ≡ digits * 10 ^ (maxPlaces - places) ⌝ }
 {
     let n = digits as u64;
     match places {

@@ -8,7 +8,7 @@ use borrow.Author.Tests.{le-leb, lt-leb, leb-true, leb-false}
 use lib.Dec.{leb, eqb}
 use lib.ListN.{length}
 use lib.IntN.{ℤ}
-use Rattle.lists.proofs.Choice.{pick-all, both}
+use Rattle.lists.proofs.Choice.{cond-all, both}
 use Rattle.rules.specs.declared.Command.{Command}
 use Rattle.rules.specs.declared.LineAnswer.{LineAnswer}
 use Rattle.rules.specs.Refusals.{forbiddenByte, noSuchForm, outOfRange}
@@ -170,14 +170,14 @@ one-command v w = ap (λ a. a .command) (sym (command-read v) ∙ command-read w
 
 -- ---- a line of a file
 
-printable-read : {l : List ℕ} → Printable l → isPrintable l ≡ true
+pub printable-read : {l : List ℕ} → Printable l → isPrintable l ≡ true
 unfolding isPrintable
-printable-read S.none = refl
+printable-read S.no-byte = refl
 printable-read (byte {b = b} p q w) = rw (le-leb 32 b p, le-leb b 126 q) (printable-read w)
 
 read-printable : (l : List ℕ) → isPrintable l ≡ true → Printable l
 unfolding isPrintable
-read-printable [] e = S.none
+read-printable [] e = S.no-byte
 read-printable (b ∷ l) e =
     let h = both (leb 32 b && leb b 126) (isPrintable l) e in
     let g = both (leb 32 b) (leb b 126) (h .0) in
@@ -186,8 +186,8 @@ read-printable (b ∷ l) e =
 pub line-sound : (l : List ℕ) → LineSays l (lineOf l)
 unfolding lineOf
 line-sound l =
-    pick-all (LineSays l) (leb (length l) maxLine)
-    (λ s. pick-all (LineSays l) (isPrintable l)
+    cond-all (LineSays l) (leb (length l) maxLine)
+    (λ s. cond-all (LineSays l) (isPrintable l)
     (λ p. allowed (leb-true (length l) maxLine s) (read-printable l p) (command-sound l))
     (λ p. forbidden (leb-true (length l) maxLine s) (λ w. false≢true (sym p ∙ printable-read w))))
     (λ s. too-long (leb-false (length l) maxLine s))
@@ -197,7 +197,7 @@ unfolding lineOf
 line-answer {l} (too-long h) = rw (lt-leb (length l) maxLine h)
 line-answer {l} (forbidden s h) =
     rw (le-leb (length l) maxLine s)
-    (pick-all (λ a. a ≡ saysNo forbiddenByte) (isPrintable l) (λ p. absurd (h (read-printable l p))) (λ _. refl))
+    (cond-all (λ a. a ≡ saysNo forbiddenByte) (isPrintable l) (λ p. absurd (h (read-printable l p))) (λ _. refl))
 line-answer {l} (allowed s p w) = rw (le-leb (length l) maxLine s, printable-read p) (command-answer w)
 
 pub line-says : (l : List ℕ) (a : LineAnswer) → (lineOf l ≡ a → LineSays l a) × (LineSays l a → lineOf l ≡ a)

@@ -8,10 +8,11 @@ use borrow.Author.Tests.{le-leb, leb-true, ne-eqb, eqb-false}
 use lib.Dec.{leb, eqb}
 use lib.ListN.{drop}
 use Rattle.lists.specs.Words.{bytes, startsWith}
-use Rattle.lists.proofs.Choice.{pick-all, both}
+use Rattle.lists.proofs.Choice.{cond-all, both}
 use Rattle.lists.proofs.Words.{begins, starts-true}
-use Rattle.rules.specs.Numbers.{isDigit, DigitRun, oneMore, digitsOf, Decimal, Reading, got, withFraction, afterDigits, magnitudeOf, unsignedOf, signedOf}
+use Rattle.rules.specs.Numbers.{isDigit, DigitRun, oneMore, digitsOf, Decimal, NumberRead, got, withFraction, afterDigits, magnitudeOf, unsignedOf, signedOf}
 use Rattle.rules.specs.Numbers as N
+use Rattle.laws.proofs.Digits.{NoDigit, NoPoint}
 use Rattle.rules.specs.Spelling.{Digits, digit, Magnitude, whole, point, Unsigned, plain, Signed, bare, plus, minus}
 use Rattle.rules.specs.Spelling as S
 
@@ -25,21 +26,13 @@ digit-yes : (d : ℕ) → d < 10 → isDigit (48 + d) ≡ true
 unfolding isDigit
 digit-yes d h = rw (le-leb 48 (48 + d) (omega arith), le-leb (48 + d) 57 (omega arith))
 
--- what may follow a number
-abbrev pub NoDigit : List ℕ → Type 0
-NoDigit [] = Unit {0}
-NoDigit (b ∷ l) = isDigit b ≡ false
-
-abbrev pub NoPoint : List ℕ → Type 0
-NoPoint l = startsWith l (bytes ".") ≡ false
-
 abbrev pub digitRun : ℕ → ℕ → List ℕ → DigitRun
 digitRun n k rest = record { value = n; count = k; rest = rest }
 
 pub digits-read : {ds : List ℕ} {k n : ℕ} → Digits ds k n → (rest : List ℕ) → NoDigit rest → digitsOf (ds ++ rest) ≡ digitRun n k rest
 unfolding digitsOf
-digits-read S.none [] p = refl
-digits-read S.none (b ∷ rest) p = rw p
+digits-read S.no-digit [] p = refl
+digits-read S.no-digit (b ∷ rest) p = rw p
 digits-read (digit {d = d} h w) rest p =
     let e : 48 + d - 48 ≡ d = omega arith in
     rw (digit-yes d h, digits-read w rest p, e)
@@ -61,9 +54,9 @@ one-digit b l r e w =
 
 pub read-digits : (l : List ℕ) → Run l (digitsOf l)
 unfolding digitsOf
-read-digits [] = record { b = []; parts = refl; has = S.none }
+read-digits [] = record { b = []; parts = refl; has = S.no-digit }
 read-digits (b ∷ l) =
-    pick-all (Run (b ∷ l)) (isDigit b) (λ e. one-digit b l (digitsOf l) e (read-digits l)) (λ _. record { b = []; parts = refl; has = S.none })
+    cond-all (Run (b ∷ l)) (isDigit b) (λ e. one-digit b l (digitsOf l) e (read-digits l)) (λ _. record { b = []; parts = refl; has = S.no-digit })
 
 -- ---- what is spelled is read
 
@@ -87,9 +80,9 @@ digit-head d l h = (rw (ne-eqb (48 + d) 45 (omega arith)), rw (ne-eqb (48 + d) 4
 
 magnitude-head : {b : List ℕ} {m j : ℕ} → Magnitude b m j → (rest : List ℕ) → NoSign (b ++ rest)
 unfolding startsWith
-magnitude-head (whole S.none h) rest = absurd (omega arith)
+magnitude-head (whole S.no-digit h) rest = absurd (omega arith)
 magnitude-head (whole (digit {d = d} {ds = ds} p w) h) rest = digit-head d (ds ++ rest) p
-magnitude-head (point S.none v h) rest = (refl, refl)
+magnitude-head (point S.no-digit v h) rest = (refl, refl)
 magnitude-head (point {fs = fs} (digit {d = d} {ds = ds} p w) v h) rest = digit-head d (ds ++ (bytes "." ++ fs) ++ rest) p
 
 pub unsigned-read : {b : List ℕ} {d : Decimal} → Unsigned b d → (rest : List ℕ) → NoDigit rest → NoPoint rest → unsignedOf (b ++ rest) ≡ got d rest
@@ -104,9 +97,9 @@ signed-read (minus w) rest p q = magnitude-read w rest true p q
 
 -- ---- what is read is spelled
 
-abbrev pub Reads : (List ℕ → Decimal → Type 0) → List ℕ → Reading → Type 0
+abbrev pub Reads : (List ℕ → Decimal → Type 0) → List ℕ → NumberRead → Type 0
 Reads P l (got d rest) = Found (λ b. P b d) l rest
-Reads P l N.none = Unit {0}
+Reads P l N.no-number = Unit {0}
 
 -- with the bytes c, a sign, before it
 module _ (neg : Bool) (P : List ℕ → Decimal → Type 0) (c l : List ℕ) (f : (b : List ℕ) (m j : ℕ) → Magnitude b m j → P (c ++ b) (number neg m j)) where
@@ -118,14 +111,14 @@ module _ (neg : Bool) (P : List ℕ → Decimal → Type 0) (c l : List ℕ) (f 
 
   after-digits : (w : DigitRun) → Run l w → Reads P (c ++ l) (afterDigits neg w)
   after-digits w v =
-      pick-all (Reads P (c ++ l)) (startsWith (w .rest) (bytes "."))
+      cond-all (Reads P (c ++ l)) (startsWith (w .rest) (bytes "."))
       (λ t. fraction (digitsOf (drop 1 (w .rest))) (starts-true (w .rest) (bytes ".") t) (read-digits (drop 1 (w .rest))))
-      (λ _. pick-all (Reads P (c ++ l)) (eqb (w .count) 0) (λ _. tt)
+      (λ _. cond-all (Reads P (c ++ l)) (eqb (w .count) 0) (λ _. tt)
       (λ t. found (v .b) (w .rest) (w .value) 0 (v .parts) (whole (v .has) (some-digit (w .count) t))))
     where
       fraction : (u : DigitRun) → w .rest ≡ bytes "." ++ drop 1 (w .rest) → Run (drop 1 (w .rest)) u → Reads P (c ++ l) (withFraction neg w u)
       fraction u e x =
-          pick-all (Reads P (c ++ l)) (eqb (w .count + u .count) 0) (λ _. tt)
+          cond-all (Reads P (c ++ l)) (eqb (w .count + u .count) 0) (λ _. tt)
           (λ t. found (v .b ++ (bytes "." ++ x .b)) (u .rest) (w .value * 10 ^ u .count + u .value) (u .count)
           (v .parts ∙ ap (λ (z : List ℕ). v .b ++ z) (e ∙ ap (λ (z : List ℕ). bytes "." ++ z) (x .parts)) ∙ sym (append-assoc (v .b) (bytes "." ++ x .b) (u .rest)))
           (point (v .has) (x .has) (some-digit (w .count + u .count) t)))
@@ -141,8 +134,8 @@ read-unsigned l = read-magnitude false Unsigned [] l (λ _ _ _ w. plain w)
 pub read-signed : (l : List ℕ) → Reads Signed l (signedOf l)
 unfolding signedOf
 read-signed l =
-    pick-all (Reads Signed l) (startsWith l (bytes "-"))
+    cond-all (Reads Signed l) (startsWith l (bytes "-"))
     (λ t. begins l (bytes "-") t (λ z. Reads Signed z (magnitudeOf true (drop 1 l))) (read-magnitude true Signed (bytes "-") (drop 1 l) (λ _ _ _ w. minus w)))
-    (λ _. pick-all (Reads Signed l) (startsWith l (bytes "+"))
+    (λ _. cond-all (Reads Signed l) (startsWith l (bytes "+"))
     (λ t. begins l (bytes "+") t (λ z. Reads Signed z (magnitudeOf false (drop 1 l))) (read-magnitude false Signed (bytes "+") (drop 1 l) (λ _ _ _ w. plus w)))
     (λ _. read-magnitude false Signed [] l (λ _ _ _ w. bare w)))

@@ -1,8 +1,8 @@
--- Fields after the first of a line: each stands behind a tab.
+-- For contracts of private functions alone: fields after the first of a line, each behind a tab.
 use mathlib.Core.List.{List, [], _∷_, _++_}
 use Prim.Native.Nat.{ℕ}
 use Rattle.lists.specs.Words.{bytes}
-use Rattle.rules.specs.declared.Point.{Point}
+use Rattle.points.specs.declared.Point.{Point}
 use Rattle.rules.specs.Printing.{signedDecimal}
 
 unfoldable pub tabbed : List (List ℕ) → List ℕ

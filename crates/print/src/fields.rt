@@ -1,21 +1,19 @@
 // Fields after the first of a line, each behind its tab.
 ghost use mathlib.Core.Path.{_≡_};
 ghost use mathlib.Core.List.{[], _∷_};
-ghost use Prim.Native.Nat.{_+_, _≤_};
-ghost use lib.ListN.{length};
 ghost use Rattle.rules.specs.Printing as P;
 ghost use Rattle.rules.specs.Printing.{decimal, signedDecimal, holeFields};
-ghost use Rattle.writer.specs.Wrote.{Wrote};
+ghost use Rattle.text.specs.Wrote.{Wrote};
 ghost use Rattle.print.specs.Fields.{tabbed, pointFields};
 ghost use Rattle.print.specs.Line.{decimals};
-use crate::numbers::put_decimal;
-use crate::numbers::put_signed;
-use crate::parts::put_byte;
+use points::Point;
 use rules::Hole;
-use rules::Point;
+use rules::kind;
+use text::put_byte;
+use text::put_decimal;
+use text::put_signed;
 
 fn put_number(b: &mut [u8], at: usize, n: u64) -> usize
-    requires { ⌜ at + length (tabbed (decimal n ∷ [])) ≤ length (now b) ⌝ }
     ensures { λ r. ⌜ Wrote (now (b .entry)) at (tabbed (decimal n ∷ [])) (now (b .exit)) r ⌝ }
 {
     let digits = put_byte(b, at, b'\t');
@@ -23,7 +21,6 @@ fn put_number(b: &mut [u8], at: usize, n: u64) -> usize
 }
 
 pub(crate) fn put_numbers(b: &mut [u8], at: usize, numbers: &[u64]) -> usize
-    requires { ⌜ at + length (tabbed (decimals (now numbers))) ≤ length (now b) ⌝ }
     ensures { λ r. ⌜ Wrote (now (b .entry)) at (tabbed (decimals (now (numbers .entry)))) (now (b .exit)) r ⌝ }
 {
     let mut end = at;
@@ -36,7 +33,6 @@ pub(crate) fn put_numbers(b: &mut [u8], at: usize, numbers: &[u64]) -> usize
 }
 
 fn put_coordinate(b: &mut [u8], at: usize, x: i32) -> usize
-    requires { ⌜ at + length (tabbed (signedDecimal x ∷ [])) ≤ length (now b) ⌝ }
     ensures { λ r. ⌜ Wrote (now (b .entry)) at (tabbed (signedDecimal x ∷ [])) (now (b .exit)) r ⌝ }
 {
     let number = put_byte(b, at, b'\t');
@@ -44,36 +40,33 @@ fn put_coordinate(b: &mut [u8], at: usize, x: i32) -> usize
 }
 
 fn put_point(b: &mut [u8], at: usize, p: Point) -> usize
-    requires { ⌜ at + length (tabbed (pointFields p)) ≤ length (now b) ⌝ }
     ensures { λ r. ⌜ Wrote (now (b .entry)) at (tabbed (pointFields p)) (now (b .exit)) r ⌝ }
 {
     let x_end = put_coordinate(b, at, p.x);
     put_coordinate(b, x_end, p.y)
 }
 
-/// H hit, L line, C clockwise, A counter-clockwise.
+// H hit, L line, C clockwise, A counter-clockwise.
 fn letter(kind: u32) -> u8
     ensures { λ r. ⌜ P.letter kind ≡ r ∷ [] ⌝ }
 {
     match kind {
-        9 => b'H',
-        12 => b'L',
-        13 => b'C',
+        kind::HIT => b'H',
+        kind::G01 => b'L',
+        kind::G02 => b'C',
         _ => b'A',
     }
 }
 
 fn put_letter(b: &mut [u8], at: usize, kind: u32) -> usize
-    requires { ⌜ at + length (tabbed (P.letter kind ∷ [])) ≤ length (now b) ⌝ }
     ensures { λ r. ⌜ Wrote (now (b .entry)) at (tabbed (P.letter kind ∷ [])) (now (b .exit)) r ⌝ }
 {
     let place = put_byte(b, at, b'\t');
     put_byte(b, place, letter(kind))
 }
 
-/// A hole's fields: letter, tool, start, end and radius.
+// A hole's fields: letter, tool, start, end and radius.
 pub(crate) fn put_hole(b: &mut [u8], at: usize, hole: Hole) -> usize
-    requires { ⌜ at + length (tabbed (holeFields hole)) ≤ length (now b) ⌝ }
     ensures { λ r. ⌜ Wrote (now (b .entry)) at (tabbed (holeFields hole)) (now (b .exit)) r ⌝ }
 {
     let start = hole.start;

@@ -1,5 +1,5 @@
 -- The demands once more, of the code: of calls as the functions' contracts allow them.
-use mathlib.Core.Path.{_≡_, refl, sym, ap, _∙_, subst, subst₂}
+use mathlib.Core.Path.{_≡_, sym, ap, _∙_, subst, subst₂}
 use mathlib.Core.Bool.{true}
 use mathlib.Core.List.{List}
 use Prim.Native.Nat.{ℕ, _*_, _≤_}
@@ -19,7 +19,7 @@ use Rattle.round.specs.Comments.{withoutComments}
 use Rattle.demands.specs.EditedFile.{LineOf, edited}
 use Rattle.demands.specs.Demand2.{HoldsReading}
 use Rattle.demands.specs.Demand3.{SameVerdict, SpanIs, AsReadAfresh}
-use Rattle.demands.proofs.WrittenTable.{good-rows, write-done}
+use Rattle.answers.proofs.WrittenTable.{good-rows, write-done}
 use Rattle.demands.proofs.Demand1.{demand-1}
 use Rattle.demands.proofs.Demand2.{demand-2}
 use Rattle.demands.proofs.Demand3.{demand-3}

@@ -1,28 +1,30 @@
 -- Any two answers allowed by a promise are equal, for each public function: its contract, cited as it stands in its source, says
 -- that the answer, and what is left, is what a definition says; and two things equal to a third are equal.
 use mathlib.Core.Path.{_≡_, refl, sym, _∙_}
-use Rattle.reader.proofs.read.Kinds as reader-read-kinds
-use Rattle.reader.proofs.read.Reads as reader-read-reads
-use Rattle.editor.proofs.edit.Kinds as editor-edit-kinds
-use Rattle.editor.proofs.edit.Reads as editor-edit-reads
-use Rattle.writer.proofs.write.Kinds as writer-write-kinds
-use Rattle.writer.proofs.write.Reads as writer-write-reads
-use Rattle.query.proofs.sizes_fit.Kinds as query-sizes-fit-kinds
-use Rattle.query.proofs.sizes_fit.Reads as query-sizes-fit-reads
-use Rattle.query.proofs.is_line.Kinds as query-is-line-kinds
-use Rattle.query.proofs.is_line.Reads as query-is-line-reads
-use Rattle.query.proofs.state_before.Kinds as query-state-before-kinds
-use Rattle.query.proofs.state_before.Reads as query-state-before-reads
-use Rattle.query.proofs.hole.Kinds as query-hole-kinds
-use Rattle.query.proofs.hole.Reads as query-hole-reads
-use Rattle.query.proofs.diameter.Kinds as query-diameter-kinds
-use Rattle.query.proofs.diameter.Reads as query-diameter-reads
-use Rattle.table.proofs.look.Kinds as table-look-kinds
-use Rattle.table.proofs.look.Reads as table-look-reads
-use Rattle.table.proofs.put.Kinds as table-put-kinds
-use Rattle.table.proofs.put.Reads as table-put-reads
-use Rattle.line.proofs.read_line.Kinds as line-read-line-kinds
-use Rattle.line.proofs.read_line.Reads as line-read-line-reads
+use Rattle.points.proofs.Point.same.Kinds as point-same-kinds
+use Rattle.points.proofs.Point.same.Reads as point-same-reads
+use Rattle.points.proofs.distance.Kinds as distance-kinds
+use Rattle.points.proofs.distance.Reads as distance-reads
+use Rattle.points.proofs.Arc.is_possible.Kinds as arc-is-possible-kinds
+use Rattle.points.proofs.Arc.is_possible.Reads as arc-is-possible-reads
+use Rattle.tools.proofs.Tools.has.Kinds as tools-has-kinds
+use Rattle.tools.proofs.Tools.has.Reads as tools-has-reads
+use Rattle.tools.proofs.Tools.insert.Kinds as tools-insert-kinds
+use Rattle.tools.proofs.Tools.insert.Reads as tools-insert-reads
+use Rattle.tools.proofs.Tools.same.Kinds as tools-same-kinds
+use Rattle.tools.proofs.Tools.same.Reads as tools-same-reads
+use Rattle.rules.proofs.State.new.Kinds as state-new-kinds
+use Rattle.rules.proofs.State.new.Reads as state-new-reads
+use Rattle.rules.proofs.State.step.Kinds as state-step-kinds
+use Rattle.rules.proofs.State.step.Reads as state-step-reads
+use Rattle.rules.proofs.State.has_ended.Kinds as state-has-ended-kinds
+use Rattle.rules.proofs.State.has_ended.Reads as state-has-ended-reads
+use Rattle.rules.proofs.State.same.Kinds as state-same-kinds
+use Rattle.rules.proofs.State.same.Reads as state-same-reads
+use Rattle.rules.proofs.Command.hole.Kinds as command-hole-kinds
+use Rattle.rules.proofs.Command.hole.Reads as command-hole-reads
+use Rattle.rules.proofs.Command.declares.Kinds as command-declares-kinds
+use Rattle.rules.proofs.Command.declares.Reads as command-declares-reads
 use Rattle.number.proofs.stands.Kinds as number-stands-kinds
 use Rattle.number.proofs.stands.Reads as number-stands-reads
 use Rattle.number.proofs.run_at.Kinds as number-run-at-kinds
@@ -35,32 +37,74 @@ use Rattle.number.proofs.coordinate.Kinds as number-coordinate-kinds
 use Rattle.number.proofs.coordinate.Reads as number-coordinate-reads
 use Rattle.number.proofs.size.Kinds as number-size-kinds
 use Rattle.number.proofs.size.Reads as number-size-reads
+use Rattle.command.proofs.read.Kinds as command-read-kinds
+use Rattle.command.proofs.read.Reads as command-read-reads
+use Rattle.line.proofs.find_lf.Kinds as line-find-lf-kinds
+use Rattle.line.proofs.find_lf.Reads as line-find-lf-reads
+use Rattle.line.proofs.text_of.Kinds as line-text-of-kinds
+use Rattle.line.proofs.text_of.Reads as line-text-of-reads
+use Rattle.line.proofs.read.Kinds as line-read-kinds
+use Rattle.line.proofs.read.Reads as line-read-reads
+use Rattle.line.proofs.answer.Kinds as line-answer-kinds
+use Rattle.line.proofs.answer.Reads as line-answer-reads
+use Rattle.row.proofs.look.Kinds as row-look-kinds
+use Rattle.row.proofs.look.Reads as row-look-reads
+use Rattle.row.proofs.command_numbers.Kinds as row-command-numbers-kinds
+use Rattle.row.proofs.command_numbers.Reads as row-command-numbers-reads
+use Rattle.row.proofs.state_numbers.Kinds as row-state-numbers-kinds
+use Rattle.row.proofs.state_numbers.Reads as row-state-numbers-reads
+use Rattle.table.proofs.sizes_fit.Kinds as table-sizes-fit-kinds
+use Rattle.table.proofs.sizes_fit.Reads as table-sizes-fit-reads
+use Rattle.table.proofs.is_line.Kinds as table-is-line-kinds
+use Rattle.table.proofs.is_line.Reads as table-is-line-reads
+use Rattle.table.proofs.look.Kinds as table-look-kinds
+use Rattle.table.proofs.look.Reads as table-look-reads
+use Rattle.table.proofs.following.Kinds as table-following-kinds
+use Rattle.table.proofs.following.Reads as table-following-reads
+use Rattle.table.proofs.state_before.Kinds as table-state-before-kinds
+use Rattle.table.proofs.state_before.Reads as table-state-before-reads
+use Rattle.table.proofs.copy.Kinds as table-copy-kinds
+use Rattle.table.proofs.copy.Reads as table-copy-reads
+use Rattle.table.proofs.put.Kinds as table-put-kinds
+use Rattle.table.proofs.put.Reads as table-put-reads
+use Rattle.text.proofs.put_byte.Kinds as text-put-byte-kinds
+use Rattle.text.proofs.put_byte.Reads as text-put-byte-reads
+use Rattle.text.proofs.put_word.Kinds as text-put-word-kinds
+use Rattle.text.proofs.put_word.Reads as text-put-word-reads
+use Rattle.text.proofs.put_digits.Kinds as text-put-digits-kinds
+use Rattle.text.proofs.put_digits.Reads as text-put-digits-reads
+use Rattle.text.proofs.put_decimal.Kinds as text-put-decimal-kinds
+use Rattle.text.proofs.put_decimal.Reads as text-put-decimal-reads
+use Rattle.text.proofs.put_signed.Kinds as text-put-signed-kinds
+use Rattle.text.proofs.put_signed.Reads as text-put-signed-reads
+use Rattle.text.proofs.put_number.Kinds as text-put-number-kinds
+use Rattle.text.proofs.put_number.Reads as text-put-number-reads
+use Rattle.text.proofs.put_coordinate.Kinds as text-put-coordinate-kinds
+use Rattle.text.proofs.put_coordinate.Reads as text-put-coordinate-reads
+use Rattle.text.proofs.number_length.Kinds as text-number-length-kinds
+use Rattle.text.proofs.number_length.Reads as text-number-length-reads
+use Rattle.text.proofs.coordinate_length.Kinds as text-coordinate-length-kinds
+use Rattle.text.proofs.coordinate_length.Reads as text-coordinate-length-reads
+use Rattle.reader.proofs.read.Kinds as reader-read-kinds
+use Rattle.reader.proofs.read.Reads as reader-read-reads
+use Rattle.query.proofs.hole.Kinds as query-hole-kinds
+use Rattle.query.proofs.hole.Reads as query-hole-reads
+use Rattle.query.proofs.diameter.Kinds as query-diameter-kinds
+use Rattle.query.proofs.diameter.Reads as query-diameter-reads
+use Rattle.editor.proofs.edit.Kinds as editor-edit-kinds
+use Rattle.editor.proofs.edit.Reads as editor-edit-reads
+use Rattle.writer.proofs.write.Kinds as writer-write-kinds
+use Rattle.writer.proofs.write.Reads as writer-write-reads
+use Rattle.print.proofs.put_numbers_line.Kinds as print-put-numbers-line-kinds
+use Rattle.print.proofs.put_numbers_line.Reads as print-put-numbers-line-reads
+use Rattle.print.proofs.put_hole_line.Kinds as print-put-hole-line-kinds
+use Rattle.print.proofs.put_hole_line.Reads as print-put-hole-line-reads
 use Rattle.print.proofs.numbers_line.Kinds as print-numbers-line-kinds
 use Rattle.print.proofs.numbers_line.Reads as print-numbers-line-reads
 use Rattle.print.proofs.hole_line.Kinds as print-hole-line-kinds
 use Rattle.print.proofs.hole_line.Reads as print-hole-line-reads
 use Rattle.report.proofs.holes.Kinds as report-holes-kinds
 use Rattle.report.proofs.holes.Reads as report-holes-reads
-use Rattle.rules.proofs.Point.same.Kinds as point-same-kinds
-use Rattle.rules.proofs.Point.same.Reads as point-same-reads
-use Rattle.rules.proofs.distance.Kinds as distance-kinds
-use Rattle.rules.proofs.distance.Reads as distance-reads
-use Rattle.rules.proofs.Arc.is_possible.Kinds as arc-is-possible-kinds
-use Rattle.rules.proofs.Arc.is_possible.Reads as arc-is-possible-reads
-use Rattle.rules.proofs.Tools.has.Kinds as tools-has-kinds
-use Rattle.rules.proofs.Tools.has.Reads as tools-has-reads
-use Rattle.rules.proofs.Tools.insert.Kinds as tools-insert-kinds
-use Rattle.rules.proofs.Tools.insert.Reads as tools-insert-reads
-use Rattle.rules.proofs.Tools.same.Kinds as tools-same-kinds
-use Rattle.rules.proofs.Tools.same.Reads as tools-same-reads
-use Rattle.rules.proofs.State.new.Kinds as state-new-kinds
-use Rattle.rules.proofs.State.new.Reads as state-new-reads
-use Rattle.rules.proofs.State.step.Kinds as state-step-kinds
-use Rattle.rules.proofs.State.step.Reads as state-step-reads
-use Rattle.rules.proofs.State.has_ended.Kinds as state-has-ended-kinds
-use Rattle.rules.proofs.State.has_ended.Reads as state-has-ended-reads
-use Rattle.rules.proofs.State.same.Kinds as state-same-kinds
-use Rattle.rules.proofs.State.same.Reads as state-same-reads
 use Rattle.xnc.proofs.xnc_read.Kinds as xnc-read-kinds
 use Rattle.xnc.proofs.xnc_read.Reads as xnc-read-reads
 use Rattle.xnc.proofs.xnc_edit.Kinds as xnc-edit-kinds
@@ -69,94 +113,12 @@ use Rattle.xnc.proofs.xnc_hole.Kinds as xnc-hole-kinds
 use Rattle.xnc.proofs.xnc_hole.Reads as xnc-hole-reads
 use Rattle.xnc.proofs.xnc_write.Kinds as xnc-write-kinds
 use Rattle.xnc.proofs.xnc_write.Reads as xnc-write-reads
-use Rattle.promises.specs.OneAnswer.{OneAnswer, OneOutcome}
+use Rattle.promises.specs.OneAnswer.{OneAnswer, OneOutcome, OneView}
 
 -- ---- the ground
 
 same : {A : Type 0} {a x y : A} → x ≡ a → y ≡ a → x ≡ y
 same p q = p ∙ sym q
-
--- ---- crate reader
-
-pub reader-read : OneOutcome 2 reader-read-kinds.ps reader-read-kinds.r reader-read-reads.Post (λ κs e. e .1 .0 .now)
-reader-read κs a x y e f p q = (same (p .0) (q .0), same (p .1) (q .1))
-
--- ---- crate editor
-
-pub editor-edit : OneOutcome 2 editor-edit-kinds.ps editor-edit-kinds.r editor-edit-reads.Post (λ κs e. e .0 .now)
-editor-edit κs a x y e f p q = (same (p .answer) (q .answer), same (p .leaves) (q .leaves))
-
--- ---- crate writer
-
-pub writer-write : OneOutcome 2 writer-write-kinds.ps writer-write-kinds.r writer-write-reads.Post (λ κs e. e .1 .1 .0 .now)
-writer-write κs a x y e f p q = (same (p .0) (q .0), same (p .1) (q .1))
-
--- ---- crate query
-
-pub query-sizes-fit : OneAnswer 1 query-sizes-fit-kinds.ps query-sizes-fit-kinds.r query-sizes-fit-reads.Post
-query-sizes-fit κs a x y e f p q = same p q
-
-pub query-is-line : OneAnswer 0 query-is-line-kinds.ps query-is-line-kinds.r query-is-line-reads.Post
-query-is-line κs a x y e f p q = same p q
-
-pub query-state-before : OneAnswer 1 query-state-before-kinds.ps query-state-before-kinds.r query-state-before-reads.Post
-query-state-before κs a x y e f p q = same p q
-
-pub query-hole : OneAnswer 1 query-hole-kinds.ps query-hole-kinds.r query-hole-reads.Post
-query-hole κs a x y e f p q = same p q
-
-pub query-diameter : OneAnswer 1 query-diameter-kinds.ps query-diameter-kinds.r query-diameter-reads.Post
-query-diameter κs a x y e f p q = same p q
-
--- ---- crate table
-
-pub table-look : OneAnswer 1 table-look-kinds.ps table-look-kinds.r table-look-reads.Post
-table-look κs a x y e f p q = same p q
-
--- it answers nothing
-pub table-put : OneOutcome 1 table-put-kinds.ps table-put-kinds.r table-put-reads.Post (λ κs e. e .0 .now)
-table-put κs a x y e f p q = (refl, same p q)
-
--- ---- crate line
-
-pub line-read-line : OneAnswer 1 line-read-line-kinds.ps line-read-line-kinds.r line-read-line-reads.Post
-line-read-line κs a x y e f p q = same p q
-
--- ---- crate number
-
-pub number-stands : OneAnswer 1 number-stands-kinds.ps number-stands-kinds.r number-stands-reads.Post
-number-stands κs a x y e f p q = same p q
-
-pub number-run-at : OneAnswer 1 number-run-at-kinds.ps number-run-at-kinds.r number-run-at-reads.Post
-number-run-at κs a x y e f p q = same (p .0) (q .0)
-
-pub number-unsigned : OneAnswer 1 number-unsigned-kinds.ps number-unsigned-kinds.r number-unsigned-reads.Post
-number-unsigned κs a x y e f p q = same p q
-
-pub number-signed : OneAnswer 1 number-signed-kinds.ps number-signed-kinds.r number-signed-reads.Post
-number-signed κs a x y e f p q = same p q
-
-pub number-coordinate : OneAnswer 0 number-coordinate-kinds.ps number-coordinate-kinds.r number-coordinate-reads.Post
-number-coordinate κs a x y e f p q = same p q
-
-pub number-size : OneAnswer 0 number-size-kinds.ps number-size-kinds.r number-size-reads.Post
-number-size κs a x y e f p q = same p q
-
--- ---- crate print
-
-pub print-numbers-line : OneOutcome 3 print-numbers-line-kinds.ps print-numbers-line-kinds.r print-numbers-line-reads.Post (λ κs e. e .0 .now)
-print-numbers-line κs a x y e f p q = (same (p .count) (q .count), same (p .bytes) (q .bytes))
-
-pub print-hole-line : OneOutcome 1 print-hole-line-kinds.ps print-hole-line-kinds.r print-hole-line-reads.Post (λ κs e. e .0 .now)
-print-hole-line κs a x y e f p q = (same (p .count) (q .count), same (p .bytes) (q .bytes))
-
--- ---- crate report: the text, and the table
-
-pub report-holes : OneOutcome 3 report-holes-kinds.ps report-holes-kinds.r report-holes-reads.Post (λ κs e. e .1 .1 .0 .now)
-report-holes κs a x y e f p q = (same (p .count) (q .count), same (p .bytes) (q .bytes))
-
-pub report-holes-table : OneOutcome 3 report-holes-kinds.ps report-holes-kinds.r report-holes-reads.Post (λ κs e. e .1 .0 .now)
-report-holes-table κs a x y e f p q = (same (p .count) (q .count), same (p .numbers) (q .numbers))
 
 -- ---- crate rules
 
@@ -189,6 +151,159 @@ state-has-ended κs a x y e f p q = same p q
 
 pub state-same : OneAnswer 0 state-same-kinds.ps state-same-kinds.r state-same-reads.Post
 state-same κs a x y e f p q = same p q
+
+pub command-hole : OneAnswer 0 command-hole-kinds.ps command-hole-kinds.r command-hole-reads.Post
+command-hole κs a x y e f p q = same p q
+
+pub command-declares : OneAnswer 0 command-declares-kinds.ps command-declares-kinds.r command-declares-reads.Post
+command-declares κs a x y e f p q = same p q
+
+-- ---- crate number
+
+pub number-stands : OneAnswer 1 number-stands-kinds.ps number-stands-kinds.r number-stands-reads.Post
+number-stands κs a x y e f p q = same p q
+
+pub number-run-at : OneAnswer 1 number-run-at-kinds.ps number-run-at-kinds.r number-run-at-reads.Post
+number-run-at κs a x y e f p q = same (p .0) (q .0)
+
+pub number-unsigned : OneAnswer 1 number-unsigned-kinds.ps number-unsigned-kinds.r number-unsigned-reads.Post
+number-unsigned κs a x y e f p q = same p q
+
+pub number-signed : OneAnswer 1 number-signed-kinds.ps number-signed-kinds.r number-signed-reads.Post
+number-signed κs a x y e f p q = same p q
+
+pub number-coordinate : OneAnswer 0 number-coordinate-kinds.ps number-coordinate-kinds.r number-coordinate-reads.Post
+number-coordinate κs a x y e f p q = same p q
+
+pub number-size : OneAnswer 0 number-size-kinds.ps number-size-kinds.r number-size-reads.Post
+number-size κs a x y e f p q = same p q
+
+-- ---- crate command
+
+pub command-read : OneAnswer 1 command-read-kinds.ps command-read-kinds.r command-read-reads.Post
+command-read κs a x y e f p q = same p q
+
+-- ---- crate line
+
+pub line-find-lf : OneAnswer 1 line-find-lf-kinds.ps line-find-lf-kinds.r line-find-lf-reads.Post
+line-find-lf κs a x y e f p q = same p q
+
+pub line-text-of : OneView 1 line-text-of-kinds.ps line-text-of-kinds.r line-text-of-reads.Post (λ κs r. r .now) (λ κs r. r .ptr)
+line-text-of κs a x y e f p q = (same (p .0) (q .0), same (p .1) (q .1))
+
+pub line-read : OneAnswer 1 line-read-kinds.ps line-read-kinds.r line-read-reads.Post
+line-read κs a x y e f p q = same p q
+
+pub line-answer : OneAnswer 1 line-answer-kinds.ps line-answer-kinds.r line-answer-reads.Post
+line-answer κs a x y e f p q = same p q
+
+-- ---- crate row
+
+pub row-look : OneAnswer 1 row-look-kinds.ps row-look-kinds.r row-look-reads.Post
+row-look κs a x y e f p q = same p q
+
+pub row-command-numbers : OneAnswer 0 row-command-numbers-kinds.ps row-command-numbers-kinds.r row-command-numbers-reads.Post
+row-command-numbers κs a x y e f p q = same p q
+
+pub row-state-numbers : OneAnswer 0 row-state-numbers-kinds.ps row-state-numbers-kinds.r row-state-numbers-reads.Post
+row-state-numbers κs a x y e f p q = same p q
+
+-- ---- crate table; copy and put answer nothing
+
+pub table-sizes-fit : OneAnswer 1 table-sizes-fit-kinds.ps table-sizes-fit-kinds.r table-sizes-fit-reads.Post
+table-sizes-fit κs a x y e f p q = same p q
+
+pub table-is-line : OneAnswer 0 table-is-line-kinds.ps table-is-line-kinds.r table-is-line-reads.Post
+table-is-line κs a x y e f p q = same p q
+
+pub table-look : OneAnswer 1 table-look-kinds.ps table-look-kinds.r table-look-reads.Post
+table-look κs a x y e f p q = same p q
+
+pub table-following : OneAnswer 1 table-following-kinds.ps table-following-kinds.r table-following-reads.Post
+table-following κs a x y e f p q = same p q
+
+pub table-state-before : OneAnswer 1 table-state-before-kinds.ps table-state-before-kinds.r table-state-before-reads.Post
+table-state-before κs a x y e f p q = same p q
+
+pub table-copy : OneOutcome 2 table-copy-kinds.ps table-copy-kinds.r table-copy-reads.Post (λ κs e. e .0 .now)
+table-copy κs a x y e f p q = (refl, same p q)
+
+pub table-put : OneOutcome 1 table-put-kinds.ps table-put-kinds.r table-put-reads.Post (λ κs e. e .0 .now)
+table-put κs a x y e f p q = (refl, same p q)
+
+-- ---- crate text: the place after, and the bytes
+
+pub text-put-byte : OneOutcome 1 text-put-byte-kinds.ps text-put-byte-kinds.r text-put-byte-reads.Post (λ κs e. e .0 .now)
+text-put-byte κs a x y e f p q = (same (p .end) (q .end), same (p .bytes) (q .bytes))
+
+pub text-put-word : OneOutcome 2 text-put-word-kinds.ps text-put-word-kinds.r text-put-word-reads.Post (λ κs e. e .0 .now)
+text-put-word κs a x y e f p q = (same (p .end) (q .end), same (p .bytes) (q .bytes))
+
+pub text-put-digits : OneOutcome 1 text-put-digits-kinds.ps text-put-digits-kinds.r text-put-digits-reads.Post (λ κs e. e .0 .now)
+text-put-digits κs a x y e f p q = (same (p .end) (q .end), same (p .bytes) (q .bytes))
+
+pub text-put-decimal : OneOutcome 1 text-put-decimal-kinds.ps text-put-decimal-kinds.r text-put-decimal-reads.Post (λ κs e. e .0 .now)
+text-put-decimal κs a x y e f p q = (same (p .end) (q .end), same (p .bytes) (q .bytes))
+
+pub text-put-signed : OneOutcome 1 text-put-signed-kinds.ps text-put-signed-kinds.r text-put-signed-reads.Post (λ κs e. e .0 .now)
+text-put-signed κs a x y e f p q = (same (p .end) (q .end), same (p .bytes) (q .bytes))
+
+pub text-put-number : OneOutcome 1 text-put-number-kinds.ps text-put-number-kinds.r text-put-number-reads.Post (λ κs e. e .0 .now)
+text-put-number κs a x y e f p q = (same (p .end) (q .end), same (p .bytes) (q .bytes))
+
+pub text-put-coordinate : OneOutcome 1 text-put-coordinate-kinds.ps text-put-coordinate-kinds.r text-put-coordinate-reads.Post (λ κs e. e .0 .now)
+text-put-coordinate κs a x y e f p q = (same (p .end) (q .end), same (p .bytes) (q .bytes))
+
+pub text-number-length : OneAnswer 0 text-number-length-kinds.ps text-number-length-kinds.r text-number-length-reads.Post
+text-number-length κs a x y e f p q = same (p .0) (q .0)
+
+pub text-coordinate-length : OneAnswer 0 text-coordinate-length-kinds.ps text-coordinate-length-kinds.r text-coordinate-length-reads.Post
+text-coordinate-length κs a x y e f p q = same (p .0) (q .0)
+
+-- ---- crate reader
+
+pub reader-read : OneOutcome 2 reader-read-kinds.ps reader-read-kinds.r reader-read-reads.Post (λ κs e. e .1 .0 .now)
+reader-read κs a x y e f p q = (same (p .0) (q .0), same (p .1) (q .1))
+
+-- ---- crate query
+
+pub query-hole : OneAnswer 1 query-hole-kinds.ps query-hole-kinds.r query-hole-reads.Post
+query-hole κs a x y e f p q = same p q
+
+pub query-diameter : OneAnswer 1 query-diameter-kinds.ps query-diameter-kinds.r query-diameter-reads.Post
+query-diameter κs a x y e f p q = same p q
+
+-- ---- crate editor
+
+pub editor-edit : OneOutcome 2 editor-edit-kinds.ps editor-edit-kinds.r editor-edit-reads.Post (λ κs e. e .0 .now)
+editor-edit κs a x y e f p q = (same (p .answer) (q .answer), same (p .leaves) (q .leaves))
+
+-- ---- crate writer
+
+pub writer-write : OneOutcome 2 writer-write-kinds.ps writer-write-kinds.r writer-write-reads.Post (λ κs e. e .1 .1 .0 .now)
+writer-write κs a x y e f p q = (same (p .0) (q .0), same (p .1) (q .1))
+
+-- ---- crate print
+
+pub print-put-numbers-line : OneOutcome 3 print-put-numbers-line-kinds.ps print-put-numbers-line-kinds.r print-put-numbers-line-reads.Post (λ κs e. e .0 .now)
+print-put-numbers-line κs a x y e f p q = (same (p .end) (q .end), same (p .bytes) (q .bytes))
+
+pub print-put-hole-line : OneOutcome 1 print-put-hole-line-kinds.ps print-put-hole-line-kinds.r print-put-hole-line-reads.Post (λ κs e. e .0 .now)
+print-put-hole-line κs a x y e f p q = (same (p .end) (q .end), same (p .bytes) (q .bytes))
+
+pub print-numbers-line : OneOutcome 3 print-numbers-line-kinds.ps print-numbers-line-kinds.r print-numbers-line-reads.Post (λ κs e. e .0 .now)
+print-numbers-line κs a x y e f p q = (same (p .count) (q .count), same (p .bytes) (q .bytes))
+
+pub print-hole-line : OneOutcome 1 print-hole-line-kinds.ps print-hole-line-kinds.r print-hole-line-reads.Post (λ κs e. e .0 .now)
+print-hole-line κs a x y e f p q = (same (p .count) (q .count), same (p .bytes) (q .bytes))
+
+-- ---- crate report: the text, and the table
+
+pub report-holes : OneOutcome 3 report-holes-kinds.ps report-holes-kinds.r report-holes-reads.Post (λ κs e. e .1 .1 .0 .now)
+report-holes κs a x y e f p q = (same (p .count) (q .count), same (p .bytes) (q .bytes))
+
+pub report-holes-table : OneOutcome 3 report-holes-kinds.ps report-holes-kinds.r report-holes-reads.Post (λ κs e. e .1 .0 .now)
+report-holes-table κs a x y e f p q = (same (p .count) (q .count), same (p .numbers) (q .numbers))
 
 -- ---- crate xnc, the door
 

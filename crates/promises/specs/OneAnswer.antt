@@ -17,3 +17,9 @@ abbrev pub OneOutcome : (n : ℕ) (ps : List (PK n)) (r : RK n) → Out n ps r �
 OneOutcome n ps r Ensures left =
     (κs : Lfts n) (a : Dens κs ps) (x y : resT r κs .Denot) (e f : AtExit (endedOf n ps r) κs)
     → Ensures κs a x e → Ensures κs a y f → (x ≡ y) × (left κs e ≡ left κs f)
+
+-- a result that is a view: any two show the same bytes, at the same place
+abbrev pub OneView : (n : ℕ) (ps : List (PK n)) (r : RK n) → Out n ps r → (bytes : (κs : Lfts n) → resT r κs .Denot → List ℕ) (place : (κs : Lfts n) → resT r κs .Denot → ℕ × ℕ) → Type 0
+OneView n ps r Ensures bytes place =
+    (κs : Lfts n) (a : Dens κs ps) (x y : resT r κs .Denot) (e f : AtExit (endedOf n ps r) κs)
+    → Ensures κs a x e → Ensures κs a y f → (bytes κs x ≡ bytes κs y) × (place κs x ≡ place κs y)

@@ -1,34 +1,18 @@
--- What the parts of reading promise: a line's answer given its number, and lines read on from somewhere in the file.
+-- For contracts of private functions alone: lines read on from somewhere in the file, and their rows in a block.
 use mathlib.Core.Path.{_≡_}
-use mathlib.Core.Bool.{Bool, true, false}
 use mathlib.Core.List.{List, []}
 use Prim.Native.Nat.{ℕ, _+_, _*_, _≤_}
-use lib.Dec.{leb}
 use lib.IntN.{ℤ}
 use lib.ListN.{length}
-use Rattle.lists.specs.Choice.{pick}
 use Rattle.lists.specs.Put.{putAt}
-use Rattle.runs.specs.Machine.{Verdict, accepted, refused, run}
-use Rattle.rules.specs.declared.State.{State}
+use Rattle.runs.specs.Machine.{Verdict, accepted, refused}
 use Rattle.rules.specs.declared.Refusal.{Refusal}
-use Rattle.rules.specs.declared.LineAnswer.{LineAnswer}
 use Rattle.rules.specs.declared.Answer.{Answer}
 use Rattle.rules.specs.declared.Answer.the-variants.{Done, Refused}
-use Rattle.rules.specs.Refusals.{tooManyLines, lineNotEnded, endsTooSoon}
 use Rattle.rules.specs.Numbers.{maxLines}
-use Rattle.rules.specs.Lines.{Line, linesOf, textOf}
-use Rattle.rules.specs.Commands.{lineOf, saysNo}
-use Rattle.rules.specs.State.{taken, hasEnded}
+use Rattle.rules.specs.Lines.{linesOf}
 use Rattle.rules.specs.Rows.{rowWidth, tableNumbers}
-use Rattle.rules.specs.Reading.{Rows, commandIn, runOf}
-
--- line i, with its bytes up to its LF: 2, 3, then the line's own
-unfoldable pub answerIn : ℕ → List ℕ → Bool → LineAnswer
-answerIn i l ended = pick (leb i maxLines) (pick ended (lineOf (textOf l)) (saysNo lineNotEnded)) (saysNo tooManyLines)
-
--- lines after n others, from a state
-abbrev pub runFrom : State → List Line → ℕ → Verdict Rows Refusal
-runFrom p ls n = run commandIn taken hasEnded endsTooSoon p ls n
+use Rattle.rules.specs.Reading.{Rows, runOf}
 
 -- the answer, where n lines came before
 abbrev pub toldFrom : ℕ → Verdict Rows Refusal → Answer

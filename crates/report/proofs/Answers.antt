@@ -1,62 +1,61 @@
 -- What the print-out leaves, one law for each way out.
-use mathlib.Core.Path.{_≡_, refl, sym, ap, _∙_}
+use mathlib.Core.Path.{_≡_, refl, sym, ap, _∙_, subst₂}
 use mathlib.Core.Bool.{true, false}
 use mathlib.Core.List.{List, [], _∷_}
-use Prim.Native.Nat.{ℕ, _-_, _<_, _≤_}
+use Prim.Native.Nat.{ℕ, _+_, _-_, _<_, _≤_}
 use native.Mathlib.Omega.{arith}
 use borrow.Author.Tests.{le-leb, lt-leb}
 use lib.IntN.{ℤ}
-use lib.ListN.{length}
+use lib.ListN.{length, drop}
 use Rattle.lists.specs.Words.{bytes}
 use Rattle.runs.specs.Machine.{Verdict, accepted, refused}
 use Rattle.rules.specs.declared.Refusal.{Refusal}
 use Rattle.rules.specs.declared.Answer.{Answer}
 use Rattle.rules.specs.declared.Answer.the-variants.{Done, Refused}
+use Rattle.rules.specs.Rows.{tableRoom, tableNumbers, Good}
 use Rattle.rules.specs.Reading.{Rows, fileOf, readAnswer, readLeaves}
 use Rattle.rules.specs.Printing.{printedLine, refusedText, printed}
+use Rattle.laws.proofs.Sizes.{sizes-say}
+use Rattle.answers.proofs.AcceptedFile.{ReadDone, file-few, read-done, read-accepts, read-writes, read-refuses}
+use Rattle.answers.proofs.GoodTables.{file-table}
 use Rattle.table.specs.Table.{lookAt}
+use Rattle.text.specs.Wrote.{Wrote}
+use Rattle.text.proofs.Wrote.{wrote-all}
 use Rattle.print.specs.Line.{decimals}
-use Rattle.obeys.proofs.Files.{file-iff}
-use Rattle.demands.specs.Demand2.{HoldsReading}
-use Rattle.demands.proofs.Demand2.{demand-2}
-use Rattle.demands.proofs.EditTable.{sizes-say}
-use Rattle.demands.proofs.AcceptedFile.{ReadDone, file-few, read-done, read-accepts, read-refuses}
-use Rattle.report.specs.Parts.{Put, textFrom}
-use Rattle.report.specs.Report.{hasRoom, Reports}
+use Rattle.report.specs.Parts.{textFrom}
+use Rattle.report.specs.Report.{textRoom, blocksFit, Reports}
 use Rattle.report.proofs.Printed.{text-is}
+use Rattle.report.proofs.Short.{printed-short}
 
 -- ---- with room and without
 
 module _ (file : List ℕ) (table : List ℤ) (text : List ℕ) where
-  nothing-reported : hasRoom table text ≡ false → Reports file table text 0 table text
+  nothing-reported : blocksFit table text ≡ false → Reports file table text 0 table text
   nothing-reported e = record { bytes = rw e; count = rw e; numbers = rw e; inside = omega arith }
 
-  table-under : length table < 15000 → hasRoom table text ≡ false
-  unfolding hasRoom
-  table-under h = rw (lt-leb 15000 (length table) h)
+  table-under : length table < tableRoom → blocksFit table text ≡ false
+  unfolding blocksFit
+  table-under h = rw (lt-leb tableRoom (length table) h)
 
-  text-under : 15000 ≤ length table → length text < 98304 → hasRoom table text ≡ false
-  unfolding hasRoom
-  text-under h k = rw (le-leb 15000 (length table) h, lt-leb 98304 (length text) k)
+  text-under : tableRoom ≤ length table → length text < textRoom → blocksFit table text ≡ false
+  unfolding blocksFit
+  text-under h k = rw (le-leb tableRoom (length table) h, lt-leb textRoom (length text) k)
 
-  pub table-short : length table < 15000 → Reports file table text 0 table text
+  pub table-short : length table < tableRoom → Reports file table text 0 table text
   table-short h = nothing-reported (table-under h)
 
-  pub text-short : 15000 ≤ length table → length text < 98304 → Reports file table text 0 table text
+  pub text-short : tableRoom ≤ length table → length text < textRoom → Reports file table text 0 table text
   text-short h k = nothing-reported (text-under h k)
 
-  module _ (h : 15000 ≤ length table) (k : 98304 ≤ length text) where
-    roomy : hasRoom table text ≡ true
-    unfolding hasRoom
-    roomy = rw (le-leb 15000 (length table) h, le-leb 98304 (length text) k)
+  module _ (h : tableRoom ≤ length table) (k : textRoom ≤ length text) where
+    roomy : blocksFit table text ≡ true
+    unfolding blocksFit
+    roomy = rw (le-leb tableRoom (length table) h, le-leb textRoom (length text) k)
 
-    reported : {T : List ℤ} → T ≡ readLeaves file table → (x : List ℕ) → x ≡ printed file → {text′ : List ℕ} {r : ℕ} → Put text 0 x 98304 text′ r → Reports file table text r T text′
-    reported le x e {text′} {r} p = record {
-      bytes = rw (roomy, ← e) (p .wrote .bytes);
-      count = rw (roomy, ← e) (omega (arith, p .wrote .end));
-      numbers = rw roomy le;
-      inside = omega (arith, p .short);
-    }
+    reported : {T : List ℤ} → T ≡ readLeaves file table → (x : List ℕ) → x ≡ printed file → {text′ : List ℕ} {r : ℕ} → Wrote text 0 x text′ r → Reports file table text r T text′
+    reported le x e p =
+        let w = wrote-all (omega (arith, ap length e, printed-short file)) p in
+        record { bytes = rw (roomy, ← e) (w .0); count = rw (roomy, ← e) (omega (arith, w .1)); numbers = rw roomy le; inside = omega (arith, w .1, ap length e, printed-short file) }
 
     -- ---- a refused file
 
@@ -76,8 +75,8 @@ module _ (file : List ℕ) (table : List ℤ) (text : List ℕ) where
     refused-text e i a = rw (refusal e i a (fileOf file) refl)
 
     pub file-refused : {a : Answer} {T : List ℤ} → a ≡ readAnswer file table → T ≡ readLeaves file table → (e : Refusal) (i : ℕ) → a ≡ Refused e i
-        → {text′ : List ℕ} {r : ℕ} → Put text 0 (printedLine (bytes "refused") (decimals (e .number ∷ i ∷ []))) 50 text′ r → Reports file table text r T text′
-    file-refused ae le e i g p = reported le _ (refused-text e i (sym ae ∙ g)) (record { wrote = p .wrote; short = omega (arith, p .short) })
+        → {text′ : List ℕ} {r : ℕ} → Wrote text 0 (printedLine (bytes "refused") (decimals (e .number ∷ i ∷ []))) text′ r → Reports file table text r T text′
+    file-refused ae le e i g p = reported le _ (refused-text e i (sym ae ∙ g)) p
 
     -- ---- an accepted file
 
@@ -85,16 +84,18 @@ module _ (file : List ℕ) (table : List ℤ) (text : List ℕ) where
       done : ReadDone file table n
       done = read-done file table n (sym ae ∙ g)
 
-      held : HoldsReading file table n (done .rows)
-      held = demand-2 .reads file table .holds n (done .rows) (sym ae ∙ g) (file-iff file (done .rows) .0 (done .read))
+      good : Good (readLeaves file table) n (done .rows)
+      good =
+          subst₂ (λ (t : List ℤ) (k : ℕ). Good t k (done .rows)) (sym (read-writes file table (done .rows) (done .read) (done .room))) (done .counted)
+          (file-table file (done .rows) (done .read) (drop (0 + length (tableNumbers (done .rows))) table))
 
-      pub lines-few : (1 ≤ n) × (n ≤ 1000)
-      lines-few = let z = sizes-say (readLeaves file table) n (held .good .fits) in (z .some, z .few)
+      pub some-lines : 1 ≤ n
+      some-lines = sizes-say (readLeaves file table) n (good .fits) .some
 
       table-text : textFrom (readLeaves file table) n (lookAt (readLeaves file table) (n - 1)) ≡ printed file
       unfolding printed
-      table-text = text-is (readLeaves file table) n (done .rows) (held .good) (held .count) (held .holes) ∙ rw (done .read)
+      table-text = text-is (readLeaves file table) n (done .rows) good (sym (done .counted)) ∙ rw (done .read)
 
-      pub file-done : {T : List ℤ} → T ≡ readLeaves file table → {text′ : List ℕ} {r : ℕ} → Put text 0 (textFrom T n (lookAt T (n - 1))) 98304 text′ r
+      pub file-done : {T : List ℤ} → T ≡ readLeaves file table → {text′ : List ℕ} {r : ℕ} → Wrote text 0 (textFrom T n (lookAt T (n - 1))) text′ r
           → Reports file table text r T text′
       file-done {T} le p = reported le _ (ap (λ (t : List ℤ). textFrom t n (lookAt t (n - 1))) le ∙ table-text) p

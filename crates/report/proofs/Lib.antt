@@ -1,6 +1,5 @@
-pub mod Answers
-pub mod Places
-pub mod Printed
+pub mod Short
 pub mod Puts
 pub mod Turns
-pub mod Undeclared
+pub mod Printed
+pub mod Answers

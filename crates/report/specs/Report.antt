@@ -1,13 +1,13 @@
 -- What the print-out of a file leaves: its bytes in the lent text, and the table that reading fills.
 use mathlib.Core.Path.{_≡_}
-use mathlib.Core.Bool.{Bool, _&&_}
+use mathlib.Core.Bool.{Bool, _&&_, cond}
 use mathlib.Core.List.{List}
 use Prim.Native.Nat.{ℕ, _≤_}
 use lib.Dec.{leb}
 use lib.IntN.{ℤ}
 use lib.ListN.{length}
-use Rattle.lists.specs.Choice.{pick}
 use Rattle.lists.specs.Put.{putAt}
+use Rattle.rules.specs.Rows.{tableRoom}
 use Rattle.rules.specs.Reading.{readLeaves}
 use Rattle.rules.specs.Printing.{printed}
 
@@ -16,11 +16,11 @@ abbrev pub textRoom : ℕ
 textRoom = 98304
 
 -- numbers for the longest table, and bytes for the longest print-out
-unfoldable pub hasRoom : List ℤ → List ℕ → Bool
-hasRoom table text = leb 15000 (length table) && leb textRoom (length text)
+unfoldable pub blocksFit : List ℤ → List ℕ → Bool
+blocksFit table text = leb tableRoom (length table) && leb textRoom (length text)
 
 pub record Reports (file : List ℕ) (table : List ℤ) (text : List ℕ) (r : ℕ) (table′ : List ℤ) (text′ : List ℕ) : Type 0 where
-  pub bytes : text′ ≡ pick (hasRoom table text) (putAt text 0 (printed file)) text
-  pub count : r ≡ pick (hasRoom table text) (length (printed file)) 0
-  pub numbers : table′ ≡ pick (hasRoom table text) (readLeaves file table) table
+  pub bytes : text′ ≡ cond (blocksFit table text) (putAt text 0 (printed file)) text
+  pub count : r ≡ cond (blocksFit table text) (length (printed file)) 0
+  pub numbers : table′ ≡ cond (blocksFit table text) (readLeaves file table) table
   pub inside : r ≤ length text

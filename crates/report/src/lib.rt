@@ -1,31 +1,28 @@
-// The whole print-out of the program `holes` as bytes in a lent block, so that the program only reads, calls and writes.
+// The whole print-out of the program `holes` as bytes in a lent block, so that the program only reads, calls and writes. Each part
+// writes from place `at` on, as crate text has it, and hands back the place after it; the longest print-out has room.
 ghost use Prim.Native.Nat.{_-_, _≤_};
-ghost use lib.ListN.{length};
 ghost use Rattle.table.specs.Table.{lookAt};
-ghost use Rattle.report.specs.Parts.{Put, tableText, textFrom};
+ghost use Rattle.text.specs.Wrote.{Wrote};
+ghost use Rattle.report.specs.Parts.{tableText, textFrom};
 ghost use Rattle.report.specs.Report.{Reports};
 
-mod lines;
 mod parts;
 
-use crate::lines::put_numbers;
-use crate::lines::put_unit;
 use crate::parts::put_lines;
 use crate::parts::put_tools;
+use crate::parts::put_unit;
 use rules::Answer;
 use rules::Looked;
 use rules::State;
+use rules::TABLE_ROOM;
 
-/// Least numbers of the table.
-pub const TABLE_ROOM: usize = 15000;
-/// Least bytes of the text: the longest print-out, of 12 for the unit, 99 * 47 for tools, 1,000 * 93 for holes and 27 for their
-/// count, leaves room to make its last line.
+/// Least bytes of the text: the longest print-out has 12 for the unit, 99 * 47 for tools, 1,000 * 93 for holes and 27 for their
+/// count.
 pub const TEXT_ROOM: usize = 98304;
 
 // The lines of a table, given the state after its last row.
 fn put_table(text: &mut [u8], table: &[i32], n: usize, last: State) -> usize
-    requires { ⌜ (n ≤ 1000) × (98304 ≤ length (now text)) ⌝ }
-    ensures { λ r. ⌜ Put (now (text .entry)) 0 (tableText (now (table .entry)) n last) 98304 (now (text .exit)) r ⌝ }
+    ensures { λ r. ⌜ Wrote (now (text .entry)) 0 (tableText (now (table .entry)) n last) (now (text .exit)) r ⌝ }
 {
     let declared = last.tools;
     let unit_end = put_unit(text, 0, last.unit);
@@ -33,24 +30,22 @@ fn put_table(text: &mut [u8], table: &[i32], n: usize, last: State) -> usize
     let lines = put_lines(text, tools_end, table, n);
     let lines_end = lines.end;
     let fields = [lines.holes as u64];
-    put_numbers(text, lines_end, b"holes", &fields)
+    print::put_numbers_line(text, lines_end, b"holes", &fields)
 }
 
 // The lines of a table as it was read: its last row is whole.
 fn put_rows(text: &mut [u8], table: &[i32], n: usize) -> usize
-    requires { ⌜ (1 ≤ n) × (n ≤ 1000) × (98304 ≤ length (now text)) ⌝ }
-    ensures { λ r. ⌜ Put (now (text .entry)) 0 (textFrom (now (table .entry)) n (lookAt (now (table .entry)) (n - 1))) 98304 (now (text .exit)) r ⌝ }
+    requires { ⌜ 1 ≤ n ⌝ }
+    ensures { λ r. ⌜ Wrote (now (text .entry)) 0 (textFrom (now (table .entry)) n (lookAt (now (table .entry)) (n - 1))) (now (text .exit)) r ⌝ }
 {
     match table::look(table, n - 1) {
-        Looked::Holds(row) => {
-            let last = row.state;
-            put_table(text, table, n, last)
-        }
+        Looked::Holds(_, last) => put_table(text, table, n, last),
         Looked::Bad => 0,
     }
 }
 
-/// What `holes` prints for a file: how many bytes. The table is the one that reading fills. 0, and everything as it was, where the table has under 15,000 numbers or the text under 98,304 bytes.
+/// What `holes` prints for a file: how many bytes. The table is the one that reading fills. 0, and everything as it was, where the
+/// table has no room for the longest file or the text under 98,304 bytes.
 pub fn holes(file: &[u8], table: &mut [i32], text: &mut [u8]) -> usize
     ensures { λ r. ⌜ Reports (now (file .entry)) (now (table .entry)) (now (text .entry)) r (now (table .exit)) (now (text .exit)) ⌝ }
 {
@@ -63,7 +58,7 @@ pub fn holes(file: &[u8], table: &mut [i32], text: &mut [u8]) -> usize
     match reader::read(file, table) {
         Answer::Refused(refusal, line) => {
             let fields = [refusal.number as u64, line as u64];
-            put_numbers(text, 0, b"refused", &fields)
+            print::put_numbers_line(text, 0, b"refused", &fields)
         }
         Answer::Done(n) => put_rows(text, table, n),
     }

@@ -1,23 +1,31 @@
-// The tools and the holes of a table. A tool's line has at most 47 bytes and a hole's at most 93, so 99 tools take at most 4,653
-// and 1,000 lines at most 93,000. Of the room that a function asks for, 128 bytes are for the line being made: crate print
-// makes none where there is less.
+// The unit, the tools and the holes of a table.
 ghost use mathlib.Core.Path.{_≡_};
-ghost use Prim.Native.Nat.{_+_, _≤_};
-ghost use lib.ListN.{length};
+ghost use Prim.Native.Nat.{_≤_};
+ghost use Rattle.rules.specs.Numbers.{maxTool};
 ghost use Rattle.rules.specs.Asking.{holeAnswer};
 ghost use Rattle.rules.specs.Printing.{holeLine, oneHole};
-ghost use Rattle.report.specs.Parts.{Put, toolText, toolsText, linesText, holesIn};
-use crate::lines::put_hole;
-use crate::lines::put_numbers;
+ghost use Rattle.text.specs.Wrote.{Wrote};
+ghost use Rattle.report.specs.Parts.{unitText, lineOfTool, linesOfTools, linesText, holesIn};
 use rules::DiameterAnswer;
 use rules::HoleAnswer;
 use rules::MAX_TOOL;
-use rules::Tools;
+use rules::unit;
+use tools::Tools;
 
-/// The place after some lines, and how many holes they have.
+// The place after some lines, and how many holes they have.
 pub(crate) struct Lines {
     pub(crate) end: usize,
     pub(crate) holes: usize,
+}
+
+// The unit's line: its name stands behind a tab.
+pub(crate) fn put_unit(text: &mut [u8], at: usize, unit: u32) -> usize
+    ensures { λ r. ⌜ Wrote (now (text .entry)) at (unitText unit) (now (text .exit)) r ⌝ }
+{
+    if unit == unit::METRIC {
+        return text::put_word(text, at, b"unit\tMETRIC\n");
+    }
+    text::put_word(text, at, b"unit\tINCH\n")
 }
 
 // A tool's line. One that is not declared has none, and its diameter isn't looked for.
@@ -29,8 +37,7 @@ fn put_tool(
     declared: Tools,
     tool: u32,
 ) -> usize
-    requires { ⌜ at + 128 ≤ length (now text) ⌝ }
-    ensures { λ r. ⌜ Put (now (text .entry)) at (toolText (now (table .entry)) n declared tool) 47 (now (text .exit)) r ⌝ }
+    ensures { λ r. ⌜ Wrote (now (text .entry)) at (lineOfTool (now (table .entry)) n declared tool) (now (text .exit)) r ⌝ }
 {
     if !declared.has(tool) {
         return at;
@@ -38,13 +45,13 @@ fn put_tool(
     match query::diameter(table, n, tool) {
         DiameterAnswer::Is(diameter) => {
             let fields = [tool as u64, diameter as u64];
-            put_numbers(text, at, b"tool", &fields)
+            print::put_numbers_line(text, at, b"tool", &fields)
         }
         DiameterAnswer::Refused(_, _) => at,
     }
 }
 
-/// The declared tools, by number.
+// The declared tools, by number.
 pub(crate) fn put_tools(
     text: &mut [u8],
     at: usize,
@@ -52,8 +59,7 @@ pub(crate) fn put_tools(
     n: usize,
     declared: Tools,
 ) -> usize
-    requires { ⌜ at + 4781 ≤ length (now text) ⌝ }
-    ensures { λ r. ⌜ Put (now (text .entry)) at (toolsText (now (table .entry)) n declared 99) 4653 (now (text .exit)) r ⌝ }
+    ensures { λ r. ⌜ Wrote (now (text .entry)) at (linesOfTools (now (table .entry)) n declared maxTool) (now (text .exit)) r ⌝ }
 {
     let mut end = at;
     let mut tool = 1;
@@ -66,12 +72,11 @@ pub(crate) fn put_tools(
 
 // The hole of a line, if it makes one.
 fn put_line(text: &mut [u8], at: usize, table: &[i32], n: usize, line: usize) -> Lines
-    requires { ⌜ at + 128 ≤ length (now text) ⌝ }
-    ensures { λ r. ⌜ Put (now (text .entry)) at (holeLine line (holeAnswer (now (table .entry)) n line)) 93 (now (text .exit)) (r .end) × (r .holes ≡ oneHole (holeAnswer (now (table .entry)) n line)) × (r .holes ≤ 1) ⌝ }
+    ensures { λ r. ⌜ Wrote (now (text .entry)) at (holeLine line (holeAnswer (now (table .entry)) n line)) (now (text .exit)) (r .end) × (r .holes ≡ oneHole (holeAnswer (now (table .entry)) n line)) × (r .holes ≤ 1) ⌝ }
 {
     match query::hole(table, n, line) {
         HoleAnswer::Makes(hole) => {
-            let end = put_hole(text, at, line, hole);
+            let end = print::put_hole_line(text, at, line, hole);
             Lines { end: end, holes: 1 }
         }
         HoleAnswer::Nothing => Lines { end: at, holes: 0 },
@@ -79,10 +84,9 @@ fn put_line(text: &mut [u8], at: usize, table: &[i32], n: usize, line: usize) ->
     }
 }
 
-/// The holes by line.
+// The holes by line.
 pub(crate) fn put_lines(text: &mut [u8], at: usize, table: &[i32], n: usize) -> Lines
-    requires { ⌜ (n ≤ 1000) × (at + 93128 ≤ length (now text)) ⌝ }
-    ensures { λ r. ⌜ Put (now (text .entry)) at (linesText (now (table .entry)) n 0 n) 93000 (now (text .exit)) (r .end) × (r .holes ≡ holesIn (now (table .entry)) n 0 n) ⌝ }
+    ensures { λ r. ⌜ Wrote (now (text .entry)) at (linesText (now (table .entry)) n 0 n) (now (text .exit)) (r .end) × (r .holes ≡ holesIn (now (table .entry)) n 0 n) ⌝ }
 {
     let mut end = at;
     let mut holes: usize = 0;

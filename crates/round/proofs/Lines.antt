@@ -1,30 +1,32 @@
--- A command's line reads back to the command. Its numbers read back (Numbers), each ended by a letter or by the line's end;
+-- A command's line reads back to the command. Its numbers read back (Numbers), each atEnd by a letter or by the line's end;
 -- its bytes are printable and few, part by part, so the line is not cut and nothing is taken off its end.
-use mathlib.Core.Path.{_≡_, refl, sym, ap, subst, _∙_}
-use mathlib.Core.Bool.{Bool, true, false, _&&_}
+use mathlib.Core.Path.{_≡_, refl, sym, ap, _∙_}
+use mathlib.Core.Bool.{true, false, _&&_, false≢true, cond}
 use mathlib.Core.List.{List, [], _∷_, _++_, append-assoc, append-nil}
 use Prim.Native.Nat.{ℕ, zero, suc, _+_, _-_, _/_, _%_, _^_, _<_, _≤_}
 use native.Mathlib.Omega.{arith}
 use native.Mathlib.Nat.{mod-lt}
-use borrow.Author.Tests.{ltb-true, leb-true, le-leb, ne-eqb}
-use lib.Dec.{ltb, leb, eqb}
+use borrow.Author.Tests.{leb-true, le-leb}
+use lib.Dec.{leb, eqb}
 use lib.IntN.{ℤ, pos, negsuc, natAbs}
-use lib.ListN.{length, getD, drop, length-append}
-use Rattle.lists.specs.Choice.{pick}
+use lib.ListN.{length, drop, length-append}
 use Rattle.lists.specs.Words.{bytes, startsWith}
-use Rattle.lists.proofs.Choice.{pick-all, both}
-use Rattle.rules.specs.declared.Point.{Point}
-use Rattle.rules.specs.declared.Arc.{Arc}
+use Rattle.lists.proofs.Choice.{cond-all, both}
+use Rattle.runs.specs.Machine.{yields}
+use Rattle.points.specs.declared.Point.{Point}
+use Rattle.points.specs.declared.Arc.{Arc}
 use Rattle.rules.specs.declared.Command.{Command}
 use Rattle.rules.specs.declared.Command.the-variants.{Comment, M48, Metric, Inch, Declare, Percent, G05, G00, Select, Hit, M15, M16, G01, G02, G03, M30}
-use Rattle.rules.specs.Numbers.{maxNumber, isDigit, digitsOf, Decimal, got, onReading, unsignedOf, millionths, isCoordinate, isSize}
-use Rattle.rules.specs.Lines.{LF, CR, linesOf, endsInCR, textOf, isPrintable}
-use Rattle.rules.specs.Commands.{Form, g00, hit, g01, g02, g03, Formed, no-form, ended, noSemicolon, commentForm, pointForm, arcForm, toolForm, formOf, says, pointOf, inRange, meaningOf, onForm, commandOf, lineOf}
-use Rattle.rules.specs.Editing.{noLineEnd}
-use Rattle.rules.specs.Writing.{lastDigits, widthOf, placesOf, fractionText, numberText, coordinateText, toolText, pointText, arcText, lineText}
-use Rattle.rules.proofs.Ranges.{PointOk, ArcOk, CommandOk}
-use Rattle.round.specs.Comments.{isComment, spelt}
-use Rattle.round.proofs.Numbers.{NoDigit, NoPoint, tool-back, width-is, places-is, written, written-millionths, number-back, writtenCoordinate, coordinate-back, written-coordinate, written-is, written-size, tool-in-range}
+use Rattle.rules.specs.Numbers.{maxLine, maxLines, maxNumber, maxTool, isDigit, digitsOf, Decimal, got, onNumber, unsignedOf, millionths, isCoordinate, isSize}
+use Rattle.rules.specs.Lines.{LF, CR, linesOf, isPrintable}
+use Rattle.rules.specs.Kinds.{isComment}
+use Rattle.rules.specs.Commands.{Form, g00, hit, g01, g02, g03, Formed, no-form, atEnd, noSemicolon, commentForm, pointForm, arcForm, toolForm, formOf, says, pointOf, inRange, meaningOf, onForm, commandOf, lineOf}
+use Rattle.rules.specs.Reading.{answerIn, commandIn}
+use Rattle.rules.specs.Writing.{lastDigits, widthOf, placesOf, fractionText, numberText, coordinateText, toolText, pointText, arcText, spelt, lineText, longestLine}
+use Rattle.rules.specs.Ranges.{PointOk, ArcOk, CommandOk}
+use Rattle.laws.proofs.Digits.{NoDigit, NoPoint}
+use Rattle.laws.proofs.Lines.{printable-without, no-cr, text-plain, endedLine, lf-line}
+use Rattle.round.proofs.Numbers.{tool-back, width-is, places-is, written, written-millionths, number-back, writtenCoordinate, coordinate-back, written-coordinate, written-is, written-size, tool-in-range}
 
 -- ---- at most n bytes, all printable
 
@@ -58,7 +60,7 @@ digits-fit (suc k) m =
 fraction-fits : (f : ℕ) → Fits 7 (fractionText f)
 unfolding fractionText isPrintable
 fraction-fits f =
-    pick-all (Fits 7) (eqb f 0) (λ _. word 7 [] refl)
+    cond-all (Fits 7) (eqb f 0) (λ _. word 7 [] refl)
     (λ _. fits-append (word 1 (bytes ".") refl) (fits-more (places-is f .most) (digits-fit (placesOf f) (f / 10 ^ (6 - placesOf f)))))
 
 pub number-fits : (v : ℕ) → v ≤ maxNumber → Fits 10 (numberText v)
@@ -81,26 +83,29 @@ pub arc-fits : (a : Arc) → ArcOk a → Fits 35 (arcText a)
 unfolding arcText isPrintable
 arc-fits a h = fits-append (point-fits (a .to) (h .to-range)) (fits-append (word 1 (bytes "A") refl) (number-fits (a .radius) (h .radius-range .high)))
 
--- the longest line has 38 bytes without its end
-pub spelt-fits : (c : Command) → CommandOk c → Fits 38 (spelt c)
+-- the longest line without its end
+abbrev longestText : ℕ
+longestText = longestLine - 1
+
+pub spelt-fits : (c : Command) → CommandOk c → Fits longestText (spelt c)
 unfolding spelt toolText isPrintable
-spelt-fits Comment h = word 38 (bytes ";") refl
-spelt-fits M48 h = word 38 (bytes "M48") refl
-spelt-fits Metric h = word 38 (bytes "METRIC") refl
-spelt-fits Inch h = word 38 (bytes "INCH") refl
+spelt-fits Comment h = word longestText (bytes ";") refl
+spelt-fits M48 h = word longestText (bytes "M48") refl
+spelt-fits Metric h = word longestText (bytes "METRIC") refl
+spelt-fits Inch h = word longestText (bytes "INCH") refl
 spelt-fits (Declare t d) h =
     fits-more (omega arith) (fits-append (word 1 (bytes "T") refl) (fits-append (digits-fit 2 t) (fits-append (word 1 (bytes "C") refl) (number-fits d (h .1 .high)))))
-spelt-fits Percent h = word 38 (bytes "%") refl
-spelt-fits G05 h = word 38 (bytes "G05") refl
+spelt-fits Percent h = word longestText (bytes "%") refl
+spelt-fits G05 h = word longestText (bytes "G05") refl
 spelt-fits (G00 p) h = fits-more (omega arith) (fits-append (word 3 (bytes "G00") refl) (point-fits p h))
 spelt-fits (Select t) h = fits-more (omega arith) (fits-append (word 1 (bytes "T") refl) (digits-fit 2 t))
 spelt-fits (Hit p) h = fits-more (omega arith) (point-fits p h)
-spelt-fits M15 h = word 38 (bytes "M15") refl
-spelt-fits M16 h = word 38 (bytes "M16") refl
+spelt-fits M15 h = word longestText (bytes "M15") refl
+spelt-fits M16 h = word longestText (bytes "M16") refl
 spelt-fits (G01 p) h = fits-more (omega arith) (fits-append (word 3 (bytes "G01") refl) (point-fits p h))
 spelt-fits (G02 a) h = fits-append (word 3 (bytes "G02") refl) (arc-fits a h)
 spelt-fits (G03 a) h = fits-append (word 3 (bytes "G03") refl) (arc-fits a h)
-spelt-fits M30 h = word 38 (bytes "M30") refl
+spelt-fits M30 h = word longestText (bytes "M30") refl
 
 -- ---- what it says
 
@@ -124,16 +129,16 @@ number-end : (v : ℕ) → v ≤ maxNumber → unsignedOf (numberText v) ≡ got
 unfolding startsWith
 number-end v h = ap unsignedOf (sym (append-nil (numberText v))) ∙ number-back v [] h tt refl
 
-tool-end : (t : ℕ) → t ≤ 99 → digitsOf (toolText t) ≡ record { value = t; count = 2; rest = [] }
+tool-end : (t : ℕ) → t ≤ maxTool → digitsOf (toolText t) ≡ record { value = t; count = 2; rest = [] }
 tool-end t h = ap digitsOf (sym (append-nil (toolText t))) ∙ tool-back t [] h tt
 
 point-back : (p : Point) (form : Decimal → Decimal → Form) (command : Point → Command)
     → ((x y : Decimal) → meaningOf (form x y) ≡ inRange (isCoordinate x && isCoordinate y) (command (pointOf x y)))
-    → PointOk p → onForm (pointForm (pointText p) (λ x y rest. ended rest (form x y))) ≡ says (command p)
+    → PointOk p → onForm (pointForm (pointText p) (λ x y rest. atEnd rest (form x y))) ≡ says (command p)
 unfolding startsWith inRange
 point-back p form command m h =
-    ap (λ (l : List ℕ). onForm (pointForm l (λ x y rest. ended rest (form x y)))) (sym (append-nil (pointText p)))
-    ∙ rw (point-form p [] (λ x y rest. ended rest (form x y)) h tt refl, m (writtenCoordinate (p .x)) (writtenCoordinate (p .y)), point-in-range p h, point-is p)
+    ap (λ (l : List ℕ). onForm (pointForm l (λ x y rest. atEnd rest (form x y)))) (sym (append-nil (pointText p)))
+    ∙ rw (point-form p [] (λ x y rest. atEnd rest (form x y)) h tt refl, m (writtenCoordinate (p .x)) (writtenCoordinate (p .y)), point-in-range p h, point-is p)
 
 arc-back : (a : Arc) (form : Decimal → Decimal → Decimal → Form) (command : Arc → Command)
     → ((x y r : Decimal) → meaningOf (form x y r) ≡ inRange (isCoordinate x && isCoordinate y && isSize r) (command (record { to = pointOf x y; radius = millionths r })))
@@ -142,7 +147,7 @@ unfolding arcForm arcText startsWith isDigit inRange
 arc-back a form command m h =
     rw (
       point-form (a .to) (bytes "A" ++ numberText (a .radius))
-          (λ x y rest. pick (startsWith rest (bytes "A")) (onReading (unsignedOf (drop 1 rest)) no-form (λ r rest′. ended rest′ (form x y r))) no-form)
+          (λ x y rest. cond (startsWith rest (bytes "A")) (onNumber (unsignedOf (drop 1 rest)) no-form (λ r rest′. atEnd rest′ (form x y r))) no-form)
           (h .to-range) refl refl,
       number-end (a .radius) (h .radius-range .high),
       m (writtenCoordinate (a .to .x)) (writtenCoordinate (a .to .y)) (written false (a .radius)),
@@ -186,106 +191,52 @@ command-back (G02 a) h = arc-back a g02 G02 (λ x y r. refl) h
 command-back (G03 a) h = arc-back a g03 G03 (λ x y r. refl) h
 command-back M30 h = refl
 
--- ---- printable bytes are one line, to its last byte
-
-printable-at : (l : List ℕ) (i : ℕ) → isPrintable l ≡ true → i < length l → 32 ≤ getD l i 0
-unfolding isPrintable
-printable-at [] i p h = absurd (omega arith)
-printable-at (b ∷ l) zero p h = leb-true 32 b (both (leb 32 b) (leb b 126) (both (leb 32 b && leb b 126) (isPrintable l) p .0) .0)
-printable-at (b ∷ l) (suc i) p h = printable-at l i (both (leb 32 b && leb b 126) (isPrintable l) p .1) (omega arith)
-
--- its first byte, and the bytes after it
-printable-first : (b : ℕ) (l : List ℕ) → isPrintable (b ∷ l) ≡ true → (32 ≤ b) × (isPrintable l ≡ true)
-unfolding isPrintable
-printable-first b l p = (printable-at (b ∷ l) 0 p (omega arith), both (leb 32 b && leb b 126) (isPrintable l) p .1)
-
-pub printable-no-end : (l : List ℕ) → isPrintable l ≡ true → noLineEnd l ≡ true
-unfolding noLineEnd
-printable-no-end [] p = refl
-printable-no-end (b ∷ l) p =
-    let h = printable-first b l p in
-    rw (ne-eqb b 10 (omega (arith, h .0)), ne-eqb b 13 (omega (arith, h .0)), printable-no-end l (h .1))
-
-pub printable-no-CR : (l : List ℕ) → isPrintable l ≡ true → endsInCR l ≡ false
-unfolding endsInCR
-printable-no-CR l p = go (ltb 0 (length l)) refl
-  where
-    go : (t : Bool) → ltb 0 (length l) ≡ t → (t && eqb (getD l (length l - 1) 0) CR) ≡ false
-    go true e =
-        let h : 0 < length l = ltb-true 0 (length l) e in
-        let g : 32 ≤ getD l (length l - 1) 0 = printable-at l (length l - 1) p (omega arith) in
-        ne-eqb (getD l (length l - 1) 0) 13 (omega arith)
-    go false e = refl
-
-pub printable-text : (l : List ℕ) → isPrintable l ≡ true → textOf l ≡ l
-unfolding textOf
-printable-text l p = rw (printable-no-CR l p)
-
-pub printable-line : (l rest : List ℕ) → isPrintable l ≡ true → linesOf (l ++ (LF ∷ rest)) ≡ record { bytes = l; ended = true } ∷ linesOf rest
-unfolding linesOf
-printable-line [] rest p = refl
-printable-line (b ∷ l) rest p = let h = printable-first b l p in rw (ne-eqb b 10 (omega (arith, h .0)), printable-line l rest (h .1))
-
 -- ---- a command's line
 
--- l is short and printable, holds no line end, and reads as c
-pub record ReadsAs (c : Command) (l : List ℕ) : Type 0 where
-  pub fits : Fits 38 l
-  pub no-line-end : noLineEnd l ≡ true
-  pub no-CR : endsInCR l ≡ false
-  pub reads : lineOf l ≡ says c
-
-pub spelt-back : (c : Command) → CommandOk c → ReadsAs c (spelt c)
+pub spelt-says : (c : Command) → CommandOk c → lineOf (spelt c) ≡ says c
 unfolding lineOf
-spelt-back c h =
-    let f : Fits 38 (spelt c) = spelt-fits c h in
-    record {
-      fits = f;
-      no-line-end = printable-no-end (spelt c) (f .printable);
-      no-CR = printable-no-CR (spelt c) (f .printable);
-      reads = rw (le-leb (length (spelt c)) 256 (omega (arith, f .short)), f .printable, command-back c h);
-    }
+spelt-says c h =
+    let f = spelt-fits c h in
+    rw (le-leb (length (spelt c)) maxLine (omega (arith, f .short)), f .printable, command-back c h)
 
--- a comment is dropped, anything else has its line
-abbrev Written : Bool → Command → Type 0
-Written true c = c ≡ Comment
-Written false c = lineText c ≡ spelt c ++ (LF ∷ [])
+-- and as a line of a file
+pub spelt-reads : (i : ℕ) (c : Command) → i ≤ maxLines → CommandOk c → commandIn i (endedLine (spelt c)) ≡ yields c
+unfolding commandIn answerIn
+spelt-reads i c n h =
+    rw (le-leb i maxLines n, text-plain (spelt c) (no-cr (spelt c) (printable-without CR (omega arith) (spelt c) (spelt-fits c h .printable))), spelt-says c h)
 
-line-written : (c : Command) → Written (isComment c) c
-unfolding lineText spelt isComment
-line-written Comment = refl
-line-written M48 = refl
-line-written Metric = refl
-line-written Inch = refl
-line-written (Declare t d) = refl
-line-written Percent = refl
-line-written G05 = refl
-line-written (G00 p) = refl
-line-written (Select t) = refl
-line-written (Hit p) = refl
-line-written M15 = refl
-line-written M16 = refl
-line-written (G01 p) = refl
-line-written (G02 a) = refl
-line-written (G03 a) = refl
-line-written M30 = refl
+pub spelt-line : (c : Command) → CommandOk c → (rest : List ℕ) → linesOf (spelt c ++ (LF ∷ rest)) ≡ endedLine (spelt c) ∷ linesOf rest
+spelt-line c h rest = lf-line (spelt c) rest (printable-without LF (omega arith) (spelt c) (spelt-fits c h .printable))
 
 pub comment-is : (c : Command) → isComment c ≡ true → c ≡ Comment
-comment-is c e = subst (λ (t : Bool). Written t c) e (line-written c)
+comment-is Comment e = refl
+comment-is M48 e = absurd (false≢true e)
+comment-is Metric e = absurd (false≢true e)
+comment-is Inch e = absurd (false≢true e)
+comment-is (Declare t d) e = absurd (false≢true e)
+comment-is Percent e = absurd (false≢true e)
+comment-is G05 e = absurd (false≢true e)
+comment-is (G00 p) e = absurd (false≢true e)
+comment-is (Select t) e = absurd (false≢true e)
+comment-is (Hit p) e = absurd (false≢true e)
+comment-is M15 e = absurd (false≢true e)
+comment-is M16 e = absurd (false≢true e)
+comment-is (G01 p) e = absurd (false≢true e)
+comment-is (G02 a) e = absurd (false≢true e)
+comment-is (G03 a) e = absurd (false≢true e)
+comment-is M30 e = absurd (false≢true e)
 
-pub line-text : (c : Command) → isComment c ≡ false → lineText c ≡ spelt c ++ (LF ∷ [])
-line-text c e = subst (λ (t : Bool). Written t c) e (line-written c)
-
-pub line-back : (c : Command) → CommandOk c → isComment c ≡ false → (lineText c ≡ spelt c ++ (LF ∷ [])) × ReadsAs c (spelt c)
-line-back c h e = (line-text c e, spelt-back c h)
-
+-- a comment is dropped, anything else has its line
 pub comment-text : (c : Command) → isComment c ≡ true → lineText c ≡ []
 unfolding lineText
-comment-text c e = rw (comment-is c e)
+comment-text c e = rw e
 
-pub line-length : (c : Command) → CommandOk c → length (lineText c) ≤ 39
-line-length c h = go (isComment c) refl
-  where
-    go : (t : Bool) → isComment c ≡ t → length (lineText c) ≤ 39
-    go true e = omega (arith, ap length (comment-text c e))
-    go false e = omega (arith, ap length (line-text c e), length-append (spelt c) (LF ∷ []), spelt-fits c h .short)
+pub line-text : (c : Command) → isComment c ≡ false → lineText c ≡ spelt c ++ (LF ∷ [])
+unfolding lineText
+line-text c e = rw e
+
+pub line-length : (c : Command) → CommandOk c → length (lineText c) ≤ longestLine
+unfolding lineText
+line-length c h =
+    cond-all (λ (l : List ℕ). length l ≤ longestLine) (isComment c) (λ _. omega arith)
+    (λ _. omega (arith, length-append (spelt c) (LF ∷ []), spelt-fits c h .short))

@@ -12,25 +12,13 @@ use lib.Arith.{mod-mul}
 use lib.Dec.{ltb, eqb}
 use lib.IntN.{ℤ, pos, negsuc, natAbs}
 use lib.Pow.{pow-add}
-use Rattle.lists.specs.Words.{bytes, startsWith}
-use Rattle.lists.proofs.Choice.{pick-all}
-use Rattle.rules.specs.Numbers.{maxNumber, maxPlaces, isDigit, noDigits, digitsOf, Decimal, got, magnitudeOf, unsignedOf, signedOf, millionths, isCoordinate, coordinateOf, isSize, isTool}
+use Rattle.lists.specs.Words.{startsWith}
+use Rattle.lists.proofs.Choice.{cond-all}
+use Rattle.rules.specs.Numbers.{maxNumber, maxTool, maxPlaces, isDigit, digitsOf, Decimal, got, magnitudeOf, unsignedOf, signedOf, millionths, isCoordinate, coordinateOf, isSize, isTool}
+use Rattle.laws.proofs.Digits.{NoDigit, NoPoint, no-digits}
 use Rattle.rules.specs.Writing.{lastDigits, widthOf, placesOf, fractionText, numberText, coordinateText, toolText}
 
 -- ---- digits
-
--- bytes that begin with no digit, with no point
-abbrev pub NoDigit : List ℕ → Type 0
-NoDigit [] = Unit {0}
-NoDigit (b ∷ l) = isDigit b ≡ false
-
-abbrev pub NoPoint : List ℕ → Type 0
-NoPoint l = startsWith l (bytes ".") ≡ false
-
-no-digits : (rest : List ℕ) → NoDigit rest → digitsOf rest ≡ noDigits rest
-unfolding digitsOf
-no-digits [] h = refl
-no-digits (b ∷ l) h = rw h
 
 digit-yes : (d : ℕ) → d < 10 → isDigit (48 + d) ≡ true
 unfolding isDigit
@@ -49,7 +37,7 @@ digits-back (suc k) m rest h =
     (λ i. record { value = value-more k m i; count = suc k; rest = rest })
 
 -- two digits of a tool number
-pub tool-back : (t : ℕ) (rest : List ℕ) → t ≤ 99 → NoDigit rest → digitsOf (toolText t ++ rest) ≡ record { value = t; count = 2; rest = rest }
+pub tool-back : (t : ℕ) (rest : List ℕ) → t ≤ maxTool → NoDigit rest → digitsOf (toolText t ++ rest) ≡ record { value = t; count = 2; rest = rest }
 unfolding toolText
 tool-back t rest b h = digits-back 2 t rest h ∙ (λ i. record { value = mod-eq-of-lt {n = t} {m = 100} (omega arith) i; count = 2; rest = rest })
 
@@ -66,8 +54,8 @@ width-at w n h g t = record { holds = ltb-true w (10 ^ n) t; some = h; short = g
 pub width-is : (w : ℕ) → w < 1000 → Width w (widthOf w)
 unfolding widthOf
 width-is w h =
-    pick-all (Width w) _ (width-at w 1 (omega arith) (omega arith))
-    (λ _. pick-all (Width w) _ (width-at w 2 (omega arith) (omega arith)) (λ _. width-at w 3 (omega arith) (omega arith) (lt-ltb w 1000 h)))
+    cond-all (Width w) _ (width-at w 1 (omega arith) (omega arith))
+    (λ _. cond-all (Width w) _ (width-at w 2 (omega arith) (omega arith)) (λ _. width-at w 3 (omega arith) (omega arith) (lt-ltb w 1000 h)))
 
 pub record Places (f d : ℕ) : Type 0 where
   pub most : d ≤ 6
@@ -79,12 +67,12 @@ places-at f d h t = record { most = h; exact = eqb-true (f % 10 ^ (6 - d)) 0 t }
 pub places-is : (f : ℕ) → Places f (placesOf f)
 unfolding placesOf
 places-is f =
-    pick-all (Places f) _ (places-at f 0 (omega arith))
-    (λ _. pick-all (Places f) _ (places-at f 1 (omega arith))
-    (λ _. pick-all (Places f) _ (places-at f 2 (omega arith))
-    (λ _. pick-all (Places f) _ (places-at f 3 (omega arith))
-    (λ _. pick-all (Places f) _ (places-at f 4 (omega arith))
-    (λ _. pick-all (Places f) _ (places-at f 5 (omega arith))
+    cond-all (Places f) _ (places-at f 0 (omega arith))
+    (λ _. cond-all (Places f) _ (places-at f 1 (omega arith))
+    (λ _. cond-all (Places f) _ (places-at f 2 (omega arith))
+    (λ _. cond-all (Places f) _ (places-at f 3 (omega arith))
+    (λ _. cond-all (Places f) _ (places-at f 4 (omega arith))
+    (λ _. cond-all (Places f) _ (places-at f 5 (omega arith))
     (λ _. places-at f 6 (omega arith) (eq-eqb (f % 1) 0 (mod-one f))))))))
 
 -- ---- v millionths as the decimal that is written for them
@@ -204,7 +192,7 @@ coordinate-back (negsuc v) rest h e p = magnitude-back true (suc v) rest h e p
 
 in-range : (neg : Bool) (v : ℕ) → v ≤ maxNumber → isCoordinate (written neg v) ≡ true
 unfolding isCoordinate
-in-range neg v h = rw (le-leb (placesIn v) 6 (written-places v neg), written-millionths v neg, le-leb v 999999999 h)
+in-range neg v h = rw (le-leb (placesIn v) maxPlaces (written-places v neg), written-millionths v neg, le-leb v maxNumber h)
 
 pub written-coordinate : (x : ℤ) → natAbs x ≤ maxNumber → isCoordinate (writtenCoordinate x) ≡ true
 written-coordinate (pos v) h = in-range false v h
@@ -217,8 +205,8 @@ written-is (negsuc v) = rw (written-millionths (suc v) true)
 
 pub written-size : (v : ℕ) → 1 ≤ v → v ≤ maxNumber → isSize (written false v) ≡ true
 unfolding isSize
-written-size v g h = rw (le-leb (placesIn v) 6 (written-places v false), written-millionths v false, le-leb 1 v g, le-leb v 999999999 h)
+written-size v g h = rw (le-leb (placesIn v) maxPlaces (written-places v false), written-millionths v false, le-leb 1 v g, le-leb v maxNumber h)
 
-pub tool-in-range : (t : ℕ) → 1 ≤ t → t ≤ 99 → isTool t ≡ true
+pub tool-in-range : (t : ℕ) → 1 ≤ t → t ≤ maxTool → isTool t ≡ true
 unfolding isTool
-tool-in-range t g h = rw (le-leb 1 t g, le-leb t 99 h)
+tool-in-range t g h = rw (le-leb 1 t g, le-leb t maxTool h)

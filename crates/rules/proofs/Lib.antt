@@ -1,8 +1,3 @@
-pub mod Bench
-pub mod Keeps
-pub mod Quarters
-pub mod Ranges
 pub mod Same
-pub mod Set
-pub mod Signed
 pub mod Tests
+pub mod Makes

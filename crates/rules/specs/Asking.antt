@@ -1,10 +1,9 @@
 -- Document 01, "The answers", hole query; and "Holes": a tool's diameter, looked up from its declaration.
-use mathlib.Core.Bool.{Bool, true, false}
+use mathlib.Core.Bool.{cond}
 use mathlib.Core.List.{List, [], _∷_}
-use Prim.Native.Nat.{ℕ, _+_}
+use Prim.Native.Nat.{ℕ, _+_, _-_}
 use lib.Dec.{eqb}
 use lib.IntN.{ℤ}
-use Rattle.lists.specs.Choice.{pick}
 use Rattle.runs.specs.Machine.{Entry, holds, bad}
 use Rattle.runs.specs.Machine as M
 use Rattle.rules.specs.declared.Command.{Command}
@@ -12,13 +11,15 @@ use Rattle.rules.specs.declared.Command.the-variants.{Comment, M48, Metr
 use Rattle.rules.specs.declared.State.{State}
 use Rattle.rules.specs.declared.HoleAnswer.{HoleAnswer}
 use Rattle.rules.specs.declared.HoleAnswer.the-variants as H
+use Rattle.rules.specs.declared.Declared.{Declared}
+use Rattle.rules.specs.declared.Declared.the-variants.{Diameter, Other}
 use Rattle.rules.specs.declared.DiameterAnswer.{DiameterAnswer}
 use Rattle.rules.specs.declared.DiameterAnswer.the-variants.{Is, Refused}
 use Rattle.rules.specs.Refusals.{noSuchLine, badTable, outOfRange, notDeclared}
 use Rattle.rules.specs.Numbers.{isTool}
 use Rattle.rules.specs.Rows.{entriesOf, sizesFit}
 use Rattle.rules.specs.Holes.{holeOf}
-use Rattle.rules.specs.Editing.{isLine, entryAt, fromBefore}
+use Rattle.rules.specs.Editing.{isLine, entryAt, beforeLine, onBefore}
 
 -- the numbers of document 01 behind the two answers
 abbrev pub holeNumber : HoleAnswer → ℕ
@@ -46,39 +47,43 @@ onRow (holds r) z f = f r
 
 unfoldable pub holeIn : List (Entry Command State) → ℕ → HoleAnswer
 holeIn es k =
-    fromBefore es k (λ i. H.Refused badTable i)
+    onBefore (beforeLine k (entryAt es (k - 1))) (H.Refused badTable (k - 1))
     (λ p. onRow (entryAt es k) (H.Refused badTable k) (λ r. holeOf (p .at) (r .command) (r .state)))
 
 unfoldable pub holeAnswer : List ℤ → ℕ → ℕ → HoleAnswer
 holeAnswer t n k =
-    pick (sizesFit t n) (pick (isLine n k) (holeIn (entriesOf n t) k) (H.Refused noSuchLine 0)) (H.Refused badTable 0)
+    cond (sizesFit t n) (cond (isLine n k) (holeIn (entriesOf n t) k) (H.Refused noSuchLine 0)) (H.Refused badTable 0)
 
 -- the diameter that a command declares for tool t
-abbrev pub onDeclared : ℕ → Command → DiameterAnswer → DiameterAnswer
-onDeclared t Comment z = z
-onDeclared t M48 z = z
-onDeclared t Metric z = z
-onDeclared t Inch z = z
-onDeclared t (Declare u d) z = pick (eqb u t) (Is d) z
-onDeclared t Percent z = z
-onDeclared t G05 z = z
-onDeclared t (G00 p) z = z
-onDeclared t (Select u) z = z
-onDeclared t (Hit p) z = z
-onDeclared t M15 z = z
-onDeclared t M16 z = z
-onDeclared t (G01 p) z = z
-onDeclared t (G02 a) z = z
-onDeclared t (G03 a) z = z
-onDeclared t M30 z = z
+unfoldable pub declaredBy : ℕ → Command → Declared
+declaredBy t Comment = Other
+declaredBy t M48 = Other
+declaredBy t Metric = Other
+declaredBy t Inch = Other
+declaredBy t (Declare u d) = cond (eqb u t) (Diameter d) Other
+declaredBy t Percent = Other
+declaredBy t G05 = Other
+declaredBy t (G00 p) = Other
+declaredBy t (Select u) = Other
+declaredBy t (Hit p) = Other
+declaredBy t M15 = Other
+declaredBy t M16 = Other
+declaredBy t (G01 p) = Other
+declaredBy t (G02 a) = Other
+declaredBy t (G03 a) = Other
+declaredBy t M30 = Other
+
+abbrev pub onDeclared : Declared → DiameterAnswer → DiameterAnswer
+onDeclared (Diameter d) z = Is d
+onDeclared Other z = z
 
 -- rows after i others, each tested, up to the first that declares tool t
 unfoldable pub diameterIn : ℕ → List (Entry Command State) → ℕ → DiameterAnswer
 diameterIn t [] i = Refused notDeclared 0
 diameterIn t (bad ∷ es) i = Refused badTable (i + 1)
-diameterIn t (holds r ∷ es) i = onDeclared t (r .command) (diameterIn t es (i + 1))
+diameterIn t (holds r ∷ es) i = onDeclared (declaredBy t (r .command)) (diameterIn t es (i + 1))
 
 -- ours: 18 at line 0 for the sizes, 7 at line 0 for a tool not 1 to 99, then the rows, then 10 at line 0
 unfoldable pub diameterAnswer : List ℤ → ℕ → ℕ → DiameterAnswer
 diameterAnswer t n tool =
-    pick (sizesFit t n) (pick (isTool tool) (diameterIn tool (entriesOf n t) 0) (Refused outOfRange 0)) (Refused badTable 0)
+    cond (sizesFit t n) (cond (isTool tool) (diameterIn tool (entriesOf n t) 0) (Refused outOfRange 0)) (Refused badTable 0)

@@ -1,5 +1,5 @@
 -- Document 01, "The bench file": its bytes, its print-out, and the edits of its proved set.
-use mathlib.Core.List.{List, [], _∷_, _++_}
+use mathlib.Core.List.{List, [], _∷_}
 use Prim.Native.Nat.{ℕ, zero, suc, _*_}
 use lib.IntN.{ℤ, pos}
 use Rattle.lists.specs.Words.{bytes}

@@ -1,21 +1,19 @@
 -- Document 01, "Command kinds": which line has which form, and which command a form means. The form of the whole line
 -- is decided before any range.
-use mathlib.Core.Bool.{Bool, true, false, _&&_, not}
+use mathlib.Core.Bool.{Bool, true, false, _&&_, not, cond}
 use mathlib.Core.List.{List, [], _∷_}
 use Prim.Native.Nat.{ℕ}
 use Prim.Native.Char.{code}
 use lib.Dec.{leb, eqb}
 use lib.ListN.{length, drop}
-use Rattle.lists.specs.Choice.{pick}
 use Rattle.lists.specs.Words.{bytes, startsWith}
 use Rattle.rules.specs.declared.Command.{Command}
 use Rattle.rules.specs.declared.Command.the-variants.{Comment, M48, Metric, Inch, Declare, Percent, G05, G00, Select, Hit, M15, M16, G01, G02, G03, M30}
-use Rattle.rules.specs.declared.Point.{Point}
-use Rattle.rules.specs.declared.Arc.{Arc}
+use Rattle.points.specs.declared.Point.{Point}
 use Rattle.rules.specs.declared.Refusal.{Refusal}
 use Rattle.rules.specs.declared.LineAnswer.{LineAnswer}
-use Rattle.rules.specs.Refusals.{none, lineTooLong, forbiddenByte, noSuchForm, outOfRange}
-use Rattle.rules.specs.Numbers.{maxLine, DigitRun, digitsOf, Decimal, onReading, unsignedOf, signedOf, millionths, isCoordinate, coordinateOf, isSize, isTool}
+use Rattle.rules.specs.Refusals.{noRefusal, lineTooLong, forbiddenByte, noSuchForm, outOfRange}
+use Rattle.rules.specs.Numbers.{maxLine, DigitRun, digitsOf, Decimal, onNumber, unsignedOf, signedOf, millionths, isCoordinate, coordinateOf, isSize, isTool}
 use Rattle.rules.specs.Lines.{isPrintable}
 
 -- ---- the forms: a kind with its numbers as they are written
@@ -43,9 +41,9 @@ pub data Formed : Type 0 where
   no-form : Formed
 
 -- nothing may follow
-abbrev pub ended : List ℕ → Form → Formed
-ended [] f = is f
-ended (b ∷ l) f = no-form
+abbrev pub atEnd : List ℕ → Form → Formed
+atEnd [] f = is f
+atEnd (b ∷ l) f = no-form
 
 -- after its `;` a comment holds no second one
 unfoldable pub noSemicolon : List ℕ → Bool
@@ -53,21 +51,21 @@ noSemicolon [] = true
 noSemicolon (b ∷ l) = not (eqb b (code ";")) && noSemicolon l
 
 unfoldable pub commentForm : List ℕ → Formed
-commentForm l = pick (noSemicolon l) (is comment) no-form
+commentForm l = cond (noSemicolon l) (is comment) no-form
 
 -- X, a number, Y, a number
 unfoldable pub pointForm : List ℕ → (Decimal → Decimal → List ℕ → Formed) → Formed
 pointForm l f =
-    pick (startsWith l (bytes "X"))
-    (onReading (signedOf (drop 1 l)) no-form
-    (λ x rest. pick (startsWith rest (bytes "Y")) (onReading (signedOf (drop 1 rest)) no-form (λ y rest′. f x y rest′)) no-form))
+    cond (startsWith l (bytes "X"))
+    (onNumber (signedOf (drop 1 l)) no-form
+    (λ x rest. cond (startsWith rest (bytes "Y")) (onNumber (signedOf (drop 1 rest)) no-form (λ y rest′. f x y rest′)) no-form))
     no-form
 
 -- and then A, a number
 unfoldable pub arcForm : List ℕ → (Decimal → Decimal → Decimal → Form) → Formed
 arcForm l f =
     pointForm l
-    (λ x y rest. pick (startsWith rest (bytes "A")) (onReading (unsignedOf (drop 1 rest)) no-form (λ r rest′. ended rest′ (f x y r))) no-form)
+    (λ x y rest. cond (startsWith rest (bytes "A")) (onNumber (unsignedOf (drop 1 rest)) no-form (λ r rest′. atEnd rest′ (f x y r))) no-form)
 
 -- a declaration's tool number has two digits, a selection's one or two
 abbrev pub declaredDigits : ℕ → Bool
@@ -78,40 +76,40 @@ selectedDigits k = leb 1 k && leb k 2
 
 abbrev pub declareForm : DigitRun → Formed
 declareForm t =
-    pick (declaredDigits (t .count)) (onReading (unsignedOf (drop 1 (t .rest))) no-form (λ d rest. ended rest (declare (t .value) d))) no-form
+    cond (declaredDigits (t .count)) (onNumber (unsignedOf (drop 1 (t .rest))) no-form (λ d rest. atEnd rest (declare (t .value) d))) no-form
 
 abbrev pub selectForm : DigitRun → Formed
-selectForm t = pick (selectedDigits (t .count)) (ended (t .rest) (select (t .value))) no-form
+selectForm t = cond (selectedDigits (t .count)) (atEnd (t .rest) (select (t .value))) no-form
 
 abbrev pub afterTool : DigitRun → Formed
-afterTool t = pick (startsWith (t .rest) (bytes "C")) (declareForm t) (selectForm t)
+afterTool t = cond (startsWith (t .rest) (bytes "C")) (declareForm t) (selectForm t)
 
 unfoldable pub toolForm : List ℕ → Formed
 toolForm l = afterTool (digitsOf l)
 
 unfoldable pub formOf : List ℕ → Formed
 formOf l =
-    pick (startsWith l (bytes ";")) (commentForm (drop 1 l))
-    (pick (startsWith l (bytes "M48")) (ended (drop 3 l) m48)
-    (pick (startsWith l (bytes "METRIC")) (ended (drop 6 l) metric)
-    (pick (startsWith l (bytes "INCH")) (ended (drop 4 l) inch)
-    (pick (startsWith l (bytes "%")) (ended (drop 1 l) percent)
-    (pick (startsWith l (bytes "G05")) (ended (drop 3 l) g05)
-    (pick (startsWith l (bytes "G00")) (pointForm (drop 3 l) (λ x y rest. ended rest (g00 x y)))
-    (pick (startsWith l (bytes "T")) (toolForm (drop 1 l))
-    (pick (startsWith l (bytes "X")) (pointForm l (λ x y rest. ended rest (hit x y)))
-    (pick (startsWith l (bytes "M15")) (ended (drop 3 l) m15)
-    (pick (startsWith l (bytes "M16")) (ended (drop 3 l) m16)
-    (pick (startsWith l (bytes "G01")) (pointForm (drop 3 l) (λ x y rest. ended rest (g01 x y)))
-    (pick (startsWith l (bytes "G02")) (arcForm (drop 3 l) g02)
-    (pick (startsWith l (bytes "G03")) (arcForm (drop 3 l) g03)
-    (pick (startsWith l (bytes "M30")) (ended (drop 3 l) m30)
+    cond (startsWith l (bytes ";")) (commentForm (drop 1 l))
+    (cond (startsWith l (bytes "M48")) (atEnd (drop 3 l) m48)
+    (cond (startsWith l (bytes "METRIC")) (atEnd (drop 6 l) metric)
+    (cond (startsWith l (bytes "INCH")) (atEnd (drop 4 l) inch)
+    (cond (startsWith l (bytes "%")) (atEnd (drop 1 l) percent)
+    (cond (startsWith l (bytes "G05")) (atEnd (drop 3 l) g05)
+    (cond (startsWith l (bytes "G00")) (pointForm (drop 3 l) (λ x y rest. atEnd rest (g00 x y)))
+    (cond (startsWith l (bytes "T")) (toolForm (drop 1 l))
+    (cond (startsWith l (bytes "X")) (pointForm l (λ x y rest. atEnd rest (hit x y)))
+    (cond (startsWith l (bytes "M15")) (atEnd (drop 3 l) m15)
+    (cond (startsWith l (bytes "M16")) (atEnd (drop 3 l) m16)
+    (cond (startsWith l (bytes "G01")) (pointForm (drop 3 l) (λ x y rest. atEnd rest (g01 x y)))
+    (cond (startsWith l (bytes "G02")) (arcForm (drop 3 l) g02)
+    (cond (startsWith l (bytes "G03")) (arcForm (drop 3 l) g03)
+    (cond (startsWith l (bytes "M30")) (atEnd (drop 3 l) m30)
     no-form))))))))))))))
 
 -- ---- what a form means: the command, or out of range
 
 abbrev pub says : Command → LineAnswer
-says c = record { refusal = none; command = c }
+says c = record { refusal = noRefusal; command = c }
 
 abbrev pub saysNo : Refusal → LineAnswer
 saysNo e = record { refusal = e; command = Comment }
@@ -151,4 +149,4 @@ commandOf l = onForm (formOf l)
 -- ---- a line's bytes without its end: 6, 4, 5, 7 in this order
 
 unfoldable pub lineOf : List ℕ → LineAnswer
-lineOf l = pick (leb (length l) maxLine) (pick (isPrintable l) (commandOf l) (saysNo forbiddenByte)) (saysNo lineTooLong)
+lineOf l = cond (leb (length l) maxLine) (cond (isPrintable l) (commandOf l) (saysNo forbiddenByte)) (saysNo lineTooLong)

@@ -1,10 +1,11 @@
 pub mod Refusals
 pub mod Numbers
 pub mod Lines
+pub mod Kinds
 pub mod Commands
-pub mod Set
 pub mod State
 pub mod Rows
+pub mod Ranges
 pub mod Holes
 pub mod Reading
 pub mod Editing

@@ -1,13 +1,12 @@
 -- Document 01, "Numbers and sizes": how a number is written, and which numbers are in range. Digits are counted exactly,
 -- however many a line holds: nothing here is capped.
-use mathlib.Core.Bool.{Bool, true, false, _&&_}
+use mathlib.Core.Bool.{Bool, true, false, _&&_, cond}
 use mathlib.Core.List.{List, [], _∷_}
 use Prim.Native.Nat.{ℕ, suc, _+_, _-_, _*_, _^_}
 use Prim.Native.Char.{code}
 use lib.Dec.{leb, eqb}
 use lib.IntN.{ℤ, pos, negℤ}
 use lib.ListN.{drop}
-use Rattle.lists.specs.Choice.{pick}
 use Rattle.lists.specs.Words.{bytes, startsWith}
 
 -- sizes
@@ -50,7 +49,7 @@ oneMore d r = record { value = d * 10 ^ r .count + r .value; count = suc (r .cou
 
 unfoldable pub digitsOf : List ℕ → DigitRun
 digitsOf [] = noDigits []
-digitsOf (b ∷ l) = pick (isDigit b) (oneMore (b - code "0") (digitsOf l)) (noDigits (b ∷ l))
+digitsOf (b ∷ l) = cond (isDigit b) (oneMore (b - code "0") (digitsOf l)) (noDigits (b ∷ l))
 
 -- a number as it is written: its sign, its digits as one number, and how many of them stand after the point
 pub record Decimal : Type 0 where
@@ -59,37 +58,37 @@ pub record Decimal : Type 0 where
   pub places : ℕ
 
 -- such a number and the bytes after it, or none
-pub data Reading : Type 0 where
-  got : Decimal → List ℕ → Reading
-  none : Reading
+pub data NumberRead : Type 0 where
+  got : Decimal → List ℕ → NumberRead
+  no-number : NumberRead
 
-abbrev pub onReading {ℓ} : {A : Type ℓ} → Reading → A → (Decimal → List ℕ → A) → A
-onReading (got d rest) z f = f d rest
-onReading none z f = z
+abbrev pub onNumber {ℓ} : {A : Type ℓ} → NumberRead → A → (Decimal → List ℕ → A) → A
+onNumber (got d rest) z f = f d rest
+onNumber no-number z f = z
 
 -- digits with at most one point, at least one digit in all
-abbrev pub wholeNumber : Bool → DigitRun → Reading
-wholeNumber neg w = pick (eqb (w .count) 0) none (got (record { negative = neg; digits = w .value; places = 0 }) (w .rest))
+abbrev pub wholeNumber : Bool → DigitRun → NumberRead
+wholeNumber neg w = cond (eqb (w .count) 0) no-number (got (record { negative = neg; digits = w .value; places = 0 }) (w .rest))
 
-abbrev pub withFraction : Bool → DigitRun → DigitRun → Reading
+abbrev pub withFraction : Bool → DigitRun → DigitRun → NumberRead
 withFraction neg w f =
-    pick (eqb (w .count + f .count) 0) none
+    cond (eqb (w .count + f .count) 0) no-number
     (got (record { negative = neg; digits = w .value * 10 ^ f .count + f .value; places = f .count }) (f .rest))
 
-abbrev pub afterDigits : Bool → DigitRun → Reading
-afterDigits neg w = pick (startsWith (w .rest) (bytes ".")) (withFraction neg w (digitsOf (drop 1 (w .rest)))) (wholeNumber neg w)
+abbrev pub afterDigits : Bool → DigitRun → NumberRead
+afterDigits neg w = cond (startsWith (w .rest) (bytes ".")) (withFraction neg w (digitsOf (drop 1 (w .rest)))) (wholeNumber neg w)
 
-unfoldable pub magnitudeOf : Bool → List ℕ → Reading
+unfoldable pub magnitudeOf : Bool → List ℕ → NumberRead
 magnitudeOf neg l = afterDigits neg (digitsOf l)
 
 -- a diameter or a radius has no sign; a coordinate may have one
-unfoldable pub unsignedOf : List ℕ → Reading
+unfoldable pub unsignedOf : List ℕ → NumberRead
 unsignedOf l = magnitudeOf false l
 
-unfoldable pub signedOf : List ℕ → Reading
+unfoldable pub signedOf : List ℕ → NumberRead
 signedOf l =
-    pick (startsWith l (bytes "-")) (magnitudeOf true (drop 1 l))
-    (pick (startsWith l (bytes "+")) (magnitudeOf false (drop 1 l)) (magnitudeOf false l))
+    cond (startsWith l (bytes "-")) (magnitudeOf true (drop 1 l))
+    (cond (startsWith l (bytes "+")) (magnitudeOf false (drop 1 l)) (magnitudeOf false l))
 
 -- ---- which numbers are in range
 
@@ -98,7 +97,7 @@ unfoldable pub millionths : Decimal → ℕ
 millionths d = d .digits * 10 ^ (maxPlaces - d .places)
 
 abbrev pub withSign : Bool → ℕ → ℤ
-withSign neg n = pick neg (negℤ (pos n)) (pos n)
+withSign neg n = cond neg (negℤ (pos n)) (pos n)
 
 -- a coordinate lies in -999,999,999 to 999,999,999
 unfoldable pub isCoordinate : Decimal → Bool

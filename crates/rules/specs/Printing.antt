@@ -1,15 +1,11 @@
 -- Document 01, "The bench file": the lines that the program prints for a file's bytes. Fields are parted by tabs.
-use mathlib.Core.Bool.{Bool, true, false}
+use mathlib.Core.Bool.{cond}
 use mathlib.Core.List.{List, [], _∷_, _++_}
 use Prim.Native.Nat.{ℕ, zero, suc, _+_, _-_, _/_}
 use lib.Dec.{ltb, eqb}
 use lib.IntN.{ℤ, pos, negsuc}
-use Rattle.lists.specs.Choice.{pick}
 use Rattle.lists.specs.Words.{bytes}
 use Rattle.runs.specs.Machine.{onVerdict, allHold, lastOf}
-use Rattle.runs.specs.Machine as M
-use Rattle.rules.specs.declared.Point.{Point}
-use Rattle.rules.specs.declared.Command.{Command}
 use Rattle.rules.specs.declared.State.{State}
 use Rattle.rules.specs.declared.Refusal.{Refusal}
 use Rattle.rules.specs.declared.Hole.{Hole}
@@ -17,8 +13,10 @@ use Rattle.rules.specs.declared.HoleAnswer.{HoleAnswer}
 use Rattle.rules.specs.declared.HoleAnswer.the-variants.{Makes, Nothing, Refused}
 use Rattle.rules.specs.declared.DiameterAnswer.{DiameterAnswer}
 use Rattle.rules.specs.declared.DiameterAnswer.the-variants as D
+use Rattle.rules.specs.Numbers.{maxTool}
 use Rattle.rules.specs.Lines.{LF}
-use Rattle.rules.specs.State.{start}
+use Rattle.rules.specs.Kinds as Kinds
+use Rattle.rules.specs.State.{metricUnit, start}
 use Rattle.rules.specs.Holes.{holeOf}
 use Rattle.rules.specs.Reading.{Rows, fileOf}
 use Rattle.rules.specs.Asking.{diameterIn}
@@ -29,7 +27,7 @@ use Rattle.rules.specs.Writing.{lastDigits}
 -- a whole number of at most k + 1 digits
 unfoldable pub shown : ℕ → ℕ → List ℕ
 shown zero n = lastDigits 1 n
-shown (suc k) n = pick (ltb n 10) (lastDigits 1 n) (shown k (n / 10) ++ lastDigits 1 n)
+shown (suc k) n = cond (ltb n 10) (lastDigits 1 n) (shown k (n / 10) ++ lastDigits 1 n)
 
 unfoldable pub decimal : ℕ → List ℕ
 decimal n = shown 19 n
@@ -45,23 +43,23 @@ printedLine f (g ∷ gs) = f ++ (bytes "\t" ++ printedLine g gs)
 -- ---- lines
 
 abbrev pub unitName : ℕ → List ℕ
-unitName u = pick (eqb u 1) (bytes "METRIC") (bytes "INCH")
+unitName u = cond (eqb u metricUnit) (bytes "METRIC") (bytes "INCH")
 
 unfoldable pub unitLine : Rows → List ℕ
 unitLine rs = printedLine (bytes "unit") (unitName (lastOf start rs .unit) ∷ [])
 
--- tools declared, by number, with their diameters: the k last of the 99
+-- tools declared, by number, with their diameters: the k last of all
 abbrev pub toolLine : ℕ → DiameterAnswer → List ℕ
 toolLine t (D.Is d) = printedLine (bytes "tool") (decimal t ∷ decimal d ∷ [])
 toolLine t (D.Refused e i) = []
 
 unfoldable pub toolLines : ℕ → Rows → List ℕ
 toolLines zero rs = []
-toolLines (suc k) rs = toolLine (99 - k) (diameterIn (99 - k) (allHold rs) 0) ++ toolLines k rs
+toolLines (suc k) rs = toolLine (maxTool - k) (diameterIn (maxTool - k) (allHold rs) 0) ++ toolLines k rs
 
 -- H hit, L line, C clockwise, A counter-clockwise
 abbrev pub letter : ℕ → List ℕ
-letter k = pick (eqb k 9) (bytes "H") (pick (eqb k 12) (bytes "L") (pick (eqb k 13) (bytes "C") (bytes "A")))
+letter k = cond (eqb k Kinds.hit) (bytes "H") (cond (eqb k Kinds.g01) (bytes "L") (cond (eqb k Kinds.g02) (bytes "C") (bytes "A")))
 
 abbrev pub holeFields : Hole → List (List ℕ)
 holeFields h =
@@ -89,7 +87,7 @@ holeCount p (r ∷ rs) = oneHole (holeOf (p .at) (r .command) (r .state)) + hole
 
 unfoldable pub holesText : Rows → List ℕ
 holesText rs =
-    unitLine rs ++ (toolLines 99 rs ++ (holeLines start rs 0 ++ printedLine (bytes "holes") (decimal (holeCount start rs) ∷ [])))
+    unitLine rs ++ (toolLines maxTool rs ++ (holeLines start rs 0 ++ printedLine (bytes "holes") (decimal (holeCount start rs) ∷ [])))
 
 unfoldable pub refusedText : Refusal → ℕ → List ℕ
 refusedText e i = printedLine (bytes "refused") (decimal (e .number) ∷ decimal i ∷ [])

@@ -6,8 +6,8 @@ abbrev pub refusal : ℕ → Refusal
 refusal n = record { number = n }
 
 -- no refusal: the number of success
-abbrev pub none : Refusal
-none = refusal 0
+abbrev pub noRefusal : Refusal
+noRefusal = refusal 0
 
 abbrev pub fileTooLong : Refusal
 fileTooLong = refusal 1

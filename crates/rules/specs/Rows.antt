@@ -1,24 +1,24 @@
--- Document 01, "A row": fifteen numbers, which of them a row may have, and when a table is good.
+-- Document 01, "A row": its numbers, which of them a row may have, and when a table is good.
 use mathlib.Core.Path.{_≡_}
-use mathlib.Core.Bool.{Bool, true, false, cond, not, _&&_, _||_}
+use mathlib.Core.Bool.{Bool, true, false, cond, _&&_}
 use mathlib.Core.List.{List, [], _∷_, _++_}
-use Prim.Native.Nat.{ℕ, zero, suc, _+_, _*_, _/_, _%_, _≤_}
+use Prim.Native.Nat.{ℕ, zero, suc, _+_, _*_, _/_, _%_}
 use lib.Dec.{leb, eqb}
 use lib.IntN.{ℤ, pos, negsuc, natAbs}
 use lib.ListN.{length, getD, take, drop}
-use Rattle.lists.specs.Choice.{pick}
 use Rattle.runs.specs.Machine as M
-use Rattle.runs.specs.Machine.{Entry, holds, bad, allHold, Follows, lastOf}
-use Rattle.rules.specs.declared.Point.{Point}
-use Rattle.rules.specs.declared.Arc.{Arc}
+use Rattle.runs.specs.Machine.{Entry, holds, bad, allHold, lastOf, Follows, StepBy}
+use Rattle.points.specs.declared.Point.{Point}
 use Rattle.rules.specs.declared.Command.{Command}
 use Rattle.rules.specs.declared.Command.the-variants.{Comment, M48, Metric, Inch, Declare, Percent, G05, G00, Select, Hit, M15, M16, G01, G02, G03, M30}
 use Rattle.rules.specs.declared.State.{State}
-use Rattle.rules.specs.declared.Row.{Row}
 use Rattle.rules.specs.declared.Looked.{Looked}
 use Rattle.rules.specs.declared.Looked.the-variants.{Holds, Bad}
 use Rattle.rules.specs.Numbers.{maxLines, maxNumber, maxTool}
-use Rattle.rules.specs.State.{start, taken, hasEnded}
+use Rattle.rules.specs.Kinds.{kindOf, carriesTool, carriesPoint, carriesSize}
+use Rattle.rules.specs.Kinds as Kinds
+use Rattle.rules.specs.State.{over, inchUnit, toolDown, start, taken, hasEnded}
+use Rattle.tools.specs.Set.{maxWord}
 
 -- how many numbers a row has
 abbrev pub rowWidth : ℕ
@@ -32,22 +32,22 @@ fiveOf k t x y d = pos k ∷ pos t ∷ x ∷ y ∷ pos d ∷ []
 
 -- each 0 where the kind has none
 unfoldable pub commandNumbers : Command → List ℤ
-commandNumbers Comment = fiveOf 0 0 (pos 0) (pos 0) 0
-commandNumbers M48 = fiveOf 1 0 (pos 0) (pos 0) 0
-commandNumbers Metric = fiveOf 2 0 (pos 0) (pos 0) 0
-commandNumbers Inch = fiveOf 3 0 (pos 0) (pos 0) 0
-commandNumbers (Declare t d) = fiveOf 4 t (pos 0) (pos 0) d
-commandNumbers Percent = fiveOf 5 0 (pos 0) (pos 0) 0
-commandNumbers G05 = fiveOf 6 0 (pos 0) (pos 0) 0
-commandNumbers (G00 p) = fiveOf 7 0 (p .x) (p .y) 0
-commandNumbers (Select t) = fiveOf 8 t (pos 0) (pos 0) 0
-commandNumbers (Hit p) = fiveOf 9 0 (p .x) (p .y) 0
-commandNumbers M15 = fiveOf 10 0 (pos 0) (pos 0) 0
-commandNumbers M16 = fiveOf 11 0 (pos 0) (pos 0) 0
-commandNumbers (G01 p) = fiveOf 12 0 (p .x) (p .y) 0
-commandNumbers (G02 a) = fiveOf 13 0 (a .to .x) (a .to .y) (a .radius)
-commandNumbers (G03 a) = fiveOf 14 0 (a .to .x) (a .to .y) (a .radius)
-commandNumbers M30 = fiveOf 15 0 (pos 0) (pos 0) 0
+commandNumbers Comment = fiveOf (kindOf Comment) 0 (pos 0) (pos 0) 0
+commandNumbers M48 = fiveOf (kindOf M48) 0 (pos 0) (pos 0) 0
+commandNumbers Metric = fiveOf (kindOf Metric) 0 (pos 0) (pos 0) 0
+commandNumbers Inch = fiveOf (kindOf Inch) 0 (pos 0) (pos 0) 0
+commandNumbers (Declare t d) = fiveOf (kindOf (Declare t d)) t (pos 0) (pos 0) d
+commandNumbers Percent = fiveOf (kindOf Percent) 0 (pos 0) (pos 0) 0
+commandNumbers G05 = fiveOf (kindOf G05) 0 (pos 0) (pos 0) 0
+commandNumbers (G00 p) = fiveOf (kindOf (G00 p)) 0 (p .x) (p .y) 0
+commandNumbers (Select t) = fiveOf (kindOf (Select t)) t (pos 0) (pos 0) 0
+commandNumbers (Hit p) = fiveOf (kindOf (Hit p)) 0 (p .x) (p .y) 0
+commandNumbers M15 = fiveOf (kindOf M15) 0 (pos 0) (pos 0) 0
+commandNumbers M16 = fiveOf (kindOf M16) 0 (pos 0) (pos 0) 0
+commandNumbers (G01 p) = fiveOf (kindOf (G01 p)) 0 (p .x) (p .y) 0
+commandNumbers (G02 a) = fiveOf (kindOf (G02 a)) 0 (a .to .x) (a .to .y) (a .radius)
+commandNumbers (G03 a) = fiveOf (kindOf (G03 a)) 0 (a .to .x) (a .to .y) (a .radius)
+commandNumbers M30 = fiveOf (kindOf M30) 0 (pos 0) (pos 0) 0
 
 -- phase, unit, motion, selected tool, point, and the four words of the declared set
 unfoldable pub stateNumbers : State → List ℤ
@@ -78,25 +78,15 @@ isCoord z = leb (natAbs z) maxNumber
 abbrev pub isZero : ℤ → Bool
 isZero z = within 0 0 z
 
--- kinds that carry a tool number, a point, a diameter or radius
-abbrev pub carriesTool : ℕ → Bool
-carriesTool k = eqb k 4 || eqb k 8
-
-abbrev pub carriesPoint : ℕ → Bool
-carriesPoint k = eqb k 7 || (eqb k 9 || (eqb k 12 || (eqb k 13 || eqb k 14)))
-
-abbrev pub carriesSize : ℕ → Bool
-carriesSize k = eqb k 4 || (eqb k 13 || eqb k 14)
-
 -- a number other than 0 where the kind has none is illegal
 unfoldable pub legalTool : ℕ → ℤ → Bool
-legalTool k t = pick (carriesTool k) (within 1 maxTool t) (isZero t)
+legalTool k t = cond (carriesTool k) (within 1 maxTool t) (isZero t)
 
 unfoldable pub legalPoint : ℕ → ℤ → ℤ → Bool
-legalPoint k x y = pick (carriesPoint k) (isCoord x && isCoord y) (isZero x && isZero y)
+legalPoint k x y = cond (carriesPoint k) (isCoord x && isCoord y) (isZero x && isZero y)
 
 unfoldable pub legalSize : ℕ → ℤ → Bool
-legalSize k d = pick (carriesSize k) (within 1 maxNumber d) (isZero d)
+legalSize k d = cond (carriesSize k) (within 1 maxNumber d) (isZero d)
 
 -- number j of a row's numbers
 abbrev pub field : List ℤ → ℕ → ℤ
@@ -107,22 +97,19 @@ fieldN a j = natAbs (field a j)
 
 unfoldable pub legalCommand : List ℤ → Bool
 legalCommand a =
-    within 0 15 (field a 0)
+    within 0 Kinds.m30 (field a 0)
     && (legalTool (fieldN a 0) (field a 1)
     && (legalPoint (fieldN a 0) (field a 2) (field a 3) && legalSize (fieldN a 0) (field a 4)))
 
--- a word of the declared set; the first never has tool 0's bit
-abbrev pub maxWord : ℕ
-maxWord = 33554431
-
+-- the first word of the declared set never has tool 0's bit
 unfoldable pub isEven : ℤ → Bool
 isEven z = eqb (natAbs z % 2) 0
 
 unfoldable pub legalState : List ℤ → Bool
 legalState a =
-    within 0 4 (field a 5)
-    && (within 0 2 (field a 6)
-    && (within 0 3 (field a 7)
+    within 0 over (field a 5)
+    && (within 0 inchUnit (field a 6)
+    && (within 0 toolDown (field a 7)
     && (within 0 maxTool (field a 8)
     && ((isCoord (field a 9) && isCoord (field a 10))
     && ((within 0 maxWord (field a 11) && isEven (field a 11))
@@ -131,25 +118,25 @@ legalState a =
 unfoldable pub rowTest : List ℤ → Bool
 rowTest a = legalCommand a && legalState a
 
--- ---- the row that fifteen numbers are
+-- ---- the row that such numbers are
 
 unfoldable pub commandFrom : ℕ → ℕ → Point → ℕ → Command
 commandFrom k t p d =
-    cond (eqb k 0) Comment
-    (cond (eqb k 1) M48
-    (cond (eqb k 2) Metric
-    (cond (eqb k 3) Inch
-    (cond (eqb k 4) (Declare t d)
-    (cond (eqb k 5) Percent
-    (cond (eqb k 6) G05
-    (cond (eqb k 7) (G00 p)
-    (cond (eqb k 8) (Select t)
-    (cond (eqb k 9) (Hit p)
-    (cond (eqb k 10) M15
-    (cond (eqb k 11) M16
-    (cond (eqb k 12) (G01 p)
-    (cond (eqb k 13) (G02 (record { to = p; radius = d }))
-    (cond (eqb k 14) (G03 (record { to = p; radius = d }))
+    cond (eqb k Kinds.comment) Comment
+    (cond (eqb k Kinds.m48) M48
+    (cond (eqb k Kinds.metric) Metric
+    (cond (eqb k Kinds.inch) Inch
+    (cond (eqb k Kinds.declare) (Declare t d)
+    (cond (eqb k Kinds.percent) Percent
+    (cond (eqb k Kinds.g05) G05
+    (cond (eqb k Kinds.g00) (G00 p)
+    (cond (eqb k Kinds.select) (Select t)
+    (cond (eqb k Kinds.hit) (Hit p)
+    (cond (eqb k Kinds.m15) M15
+    (cond (eqb k Kinds.m16) M16
+    (cond (eqb k Kinds.g01) (G01 p)
+    (cond (eqb k Kinds.g02) (G02 (record { to = p; radius = d }))
+    (cond (eqb k Kinds.g03) (G03 (record { to = p; radius = d }))
     M30))))))))))))))
 
 unfoldable pub commandAt : List ℤ → Command
@@ -165,20 +152,24 @@ stateAt a = record {
   tools = record { a = fieldN a 11; b = fieldN a 12; c = fieldN a 13; d = fieldN a 14 };
 }
 
--- fifteen numbers looked at
+-- a row's numbers looked at
 unfoldable pub lookOf : List ℤ → Looked
-lookOf a = pick (rowTest a) (Holds (record { command = commandAt a; state = stateAt a })) Bad
+lookOf a = cond (rowTest a) (Holds (commandAt a) (stateAt a)) Bad
 
 -- ---- a table of n rows
 
 abbrev pub entryOf : Looked → Entry Command State
-entryOf (Holds r) = holds (record { command = r .command; state = r .state })
+entryOf (Holds c s) = holds (record { command = c; state = s })
 entryOf Bad = bad
 
 -- its rows as they are found
 unfoldable pub entriesOf : ℕ → List ℤ → List (Entry Command State)
 entriesOf zero t = []
 entriesOf (suc n) t = entryOf (lookOf (take rowWidth t)) ∷ entriesOf n (drop rowWidth t)
+
+-- numbers for the longest table
+abbrev pub tableRoom : ℕ
+tableRoom = rowWidth * maxLines
 
 -- the lent numbers can hold n rows, and n is 1 to 1,000
 unfoldable pub sizesFit : List ℤ → ℕ → Bool
@@ -188,5 +179,5 @@ sizesFit t n = leb 1 n && (leb n maxLines && leb n (length t / rowWidth))
 pub record Good (t : List ℤ) (n : ℕ) (rs : List (M.Row Command State)) : Type 0 where
   pub fits : sizesFit t n ≡ true
   pub found : entriesOf n t ≡ allHold rs
-  pub follows : Follows taken start rs
+  pub follows : Follows (StepBy taken) start 0 rs
   pub ends : hasEnded (lastOf start rs) ≡ true

@@ -1,5 +1,5 @@
 -- The rules once more, as a relation and with no reader in it: which bytes spell which number, which command, which file.
-use mathlib.Core.Bool.{Bool, true, false}
+use mathlib.Core.Bool.{true, false}
 use mathlib.Core.Path.{_≡_}
 use mathlib.Core.List.{List, [], _∷_, _++_}
 use Prim.Native.Nat.{ℕ, suc, _+_, _*_, _^_, _<_, _≤_}
@@ -17,7 +17,7 @@ use Rattle.rules.specs.Commands.{Form, comment, m48, metric, inch, decla
 
 -- k digits, of value n
 pub data Digits : List ℕ → ℕ → ℕ → Type 0 where
-  none : Digits [] 0 0
+  no-digit : Digits [] 0 0
   digit : {d : ℕ} {ds : List ℕ} {k n : ℕ} → d < 10 → Digits ds k n → Digits ((code "0" + d) ∷ ds) (suc k) (d * 10 ^ k + n)
 
 -- digits with at most one point among them, at least one digit: all digits as one number, and how many stand after the point
@@ -35,14 +35,14 @@ pub data Signed : List ℕ → Decimal → Type 0 where
 
 -- ---- forms
 
-pub data Point : List ℕ → Decimal → Decimal → Type 0 where
-  xy : {a b : List ℕ} {x y : Decimal} → Signed a x → Signed b y → Point (bytes "X" ++ (a ++ (bytes "Y" ++ b))) x y
+pub data SpellsPoint : List ℕ → Decimal → Decimal → Type 0 where
+  xy : {a b : List ℕ} {x y : Decimal} → Signed a x → Signed b y → SpellsPoint (bytes "X" ++ (a ++ (bytes "Y" ++ b))) x y
 
-pub data Arc : List ℕ → Decimal → Decimal → Decimal → Type 0 where
-  xya : {a b : List ℕ} {x y r : Decimal} → Point a x y → Unsigned b r → Arc (a ++ (bytes "A" ++ b)) x y r
+pub data SpellsArc : List ℕ → Decimal → Decimal → Decimal → Type 0 where
+  xya : {a b : List ℕ} {x y r : Decimal} → SpellsPoint a x y → Unsigned b r → SpellsArc (a ++ (bytes "A" ++ b)) x y r
 
 pub data NoSemicolon : List ℕ → Type 0 where
-  none : NoSemicolon []
+  nothing : NoSemicolon []
   other : {b : ℕ} {l : List ℕ} → (b ≡ code ";" → ⊥) → NoSemicolon l → NoSemicolon (b ∷ l)
 
 pub data Spells : List ℕ → Form → Type 0 where
@@ -53,14 +53,14 @@ pub data Spells : List ℕ → Form → Type 0 where
   declare-is : {ds b : List ℕ} {t : ℕ} {d : Decimal} → Digits ds 2 t → Unsigned b d → Spells (bytes "T" ++ (ds ++ (bytes "C" ++ b))) (declare t d)
   percent-is : Spells (bytes "%") percent
   g05-is : Spells (bytes "G05") g05
-  g00-is : {b : List ℕ} {x y : Decimal} → Point b x y → Spells (bytes "G00" ++ b) (g00 x y)
+  g00-is : {b : List ℕ} {x y : Decimal} → SpellsPoint b x y → Spells (bytes "G00" ++ b) (g00 x y)
   select-is : {ds : List ℕ} {k t : ℕ} → Digits ds k t → 1 ≤ k → k ≤ 2 → Spells (bytes "T" ++ ds) (select t)
-  hit-is : {b : List ℕ} {x y : Decimal} → Point b x y → Spells b (hit x y)
+  hit-is : {b : List ℕ} {x y : Decimal} → SpellsPoint b x y → Spells b (hit x y)
   m15-is : Spells (bytes "M15") m15
   m16-is : Spells (bytes "M16") m16
-  g01-is : {b : List ℕ} {x y : Decimal} → Point b x y → Spells (bytes "G01" ++ b) (g01 x y)
-  g02-is : {b : List ℕ} {x y r : Decimal} → Arc b x y r → Spells (bytes "G02" ++ b) (g02 x y r)
-  g03-is : {b : List ℕ} {x y r : Decimal} → Arc b x y r → Spells (bytes "G03" ++ b) (g03 x y r)
+  g01-is : {b : List ℕ} {x y : Decimal} → SpellsPoint b x y → Spells (bytes "G01" ++ b) (g01 x y)
+  g02-is : {b : List ℕ} {x y r : Decimal} → SpellsArc b x y r → Spells (bytes "G02" ++ b) (g02 x y r)
+  g03-is : {b : List ℕ} {x y r : Decimal} → SpellsArc b x y r → Spells (bytes "G03" ++ b) (g03 x y r)
   m30-is : Spells (bytes "M30") m30
 
 -- ---- ranges
@@ -96,7 +96,7 @@ pub data Means : Form → Command → Type 0 where
 -- ---- lines and files
 
 pub data Printable : List ℕ → Type 0 where
-  none : Printable []
+  no-byte : Printable []
   byte : {b : ℕ} {l : List ℕ} → 32 ≤ b → b ≤ 126 → Printable l → Printable (b ∷ l)
 
 -- bytes that spell a command

@@ -1,11 +1,15 @@
 // The things that document 01 speaks of, as types, with its sizes and refusals by name. What they mean stands in specs/,
 // a file for each section.
-mod arcs;
-mod points;
-mod sets;
+mod holes;
+pub mod kind;
+pub mod motion;
+pub mod phase;
 mod steps;
+pub mod unit;
 
-pub use arcs::distance;
+use points::Arc;
+use points::Point;
+use tools::Tools;
 
 /// Most bytes of a file.
 pub const MAX_FILE: usize = 65536;
@@ -19,6 +23,8 @@ pub const MAX_NUMBER: u32 = 999999999;
 pub const MAX_TOOL: u32 = 99;
 /// Lent numbers of a row.
 pub const ROW_WIDTH: usize = 15;
+/// Lent numbers of the longest table.
+pub const TABLE_ROOM: usize = ROW_WIDTH * MAX_LINES;
 
 // The refusals, in the order in which they are tested. A line that is not refused has NONE.
 pub const NONE: Refusal = Refusal { number: 0 };
@@ -59,18 +65,6 @@ pub const HOLDS_LINE_END: Refusal = Refusal { number: 17 };
 
 pub const BAD_TABLE: Refusal = Refusal { number: 18 };
 
-/// A place on the board, in millionths of the file's unit.
-pub struct Point {
-    pub x: i32,
-    pub y: i32,
-}
-
-/// Where an arc ends, and its radius.
-pub struct Arc {
-    pub to: Point,
-    pub radius: u32,
-}
-
 /// One kind together with the numbers that kind carries.
 pub enum Command {
     Comment,
@@ -89,14 +83,6 @@ pub enum Command {
     G02(Arc),
     G03(Arc),
     M30,
-}
-
-/// The declared tools, in four masked words: tool t is bit t mod 25 of word t div 25.
-pub struct Tools {
-    pub a: u32,
-    pub b: u32,
-    pub c: u32,
-    pub d: u32,
 }
 
 /// What a line leaves for the next. It starts all zero.
@@ -126,16 +112,22 @@ pub struct LineAnswer {
     pub command: Command,
 }
 
-/// A line of a table: its command, and the state after it.
-pub struct Row {
-    pub command: Command,
-    pub state: State,
+/// A row's lent numbers looked at: a row, that is a command and the state after it, or numbers that no row has.
+pub enum Looked {
+    Holds(Command, State),
+    Bad,
 }
 
-/// Fifteen lent numbers looked at: a row, or numbers that no row has.
-pub enum Looked {
-    Holds(Row),
+/// The state before a line, or that the row before it fails its test.
+pub enum Before {
+    From(State),
     Bad,
+}
+
+/// What a command declares for a tool.
+pub enum Declared {
+    Diameter(u32),
+    Other,
 }
 
 /// What a hit or a rout takes out of the board. The kind is the command's.

@@ -1,43 +1,21 @@
 // The state machine: a method for each command, which tests in the order of the refusals and leaves at the first that fails.
 ghost use mathlib.Core.Path.{_≡_};
 ghost use Rattle.rules.specs.State as S;
-use crate::Arc;
 use crate::Command;
 use crate::DECLARED_ALREADY;
 use crate::IMPOSSIBLE_ARC;
 use crate::NO_TOOL_SELECTED;
 use crate::NOT_DECLARED;
 use crate::Next;
-use crate::Point;
 use crate::State;
-use crate::Tools;
 use crate::WRONG_MOTION;
 use crate::WRONG_PHASE;
-
-// Phases: before M48, header without a unit, header with one, body, ended.
-const BEFORE: u32 = 0;
-
-const NO_UNIT: u32 = 1;
-
-const HEADER: u32 = 2;
-
-const BODY: u32 = 3;
-
-const ENDED: u32 = 4;
-
-// Units.
-const METRIC: u32 = 1;
-
-const INCH: u32 = 2;
-
-// Motions: none, drill, rout with the tool up, rout with the tool down.
-const NO_MOTION: u32 = 0;
-
-const DRILL: u32 = 1;
-
-const TOOL_UP: u32 = 2;
-
-const TOOL_DOWN: u32 = 3;
+use crate::motion;
+use crate::phase;
+use crate::unit;
+use points::Arc;
+use points::Point;
+use tools::Tools;
 
 // No tool is selected.
 const NO_TOOL: u32 = 0;
@@ -48,9 +26,9 @@ impl State {
         ensures { λ r. ⌜ r ≡ S.start ⌝ }
     {
         State {
-            phase: BEFORE,
-            unit: 0,
-            motion: NO_MOTION,
+            phase: phase::BEFORE_M48,
+            unit: unit::NONE,
+            motion: motion::NONE,
             tool: NO_TOOL,
             at: Point { x: 0, y: 0 },
             tools: Tools {
@@ -65,7 +43,7 @@ impl State {
     fn comment(self) -> Next
         ensures { λ r. ⌜ r ≡ S.comment self ⌝ }
     {
-        if self.phase >= ENDED {
+        if self.phase >= phase::OVER {
             return Next::No(WRONG_PHASE);
         }
         Next::To(self)
@@ -74,30 +52,30 @@ impl State {
     fn m48(mut self) -> Next
         ensures { λ r. ⌜ r ≡ S.m48 self ⌝ }
     {
-        if self.phase != BEFORE {
+        if self.phase != phase::BEFORE_M48 {
             return Next::No(WRONG_PHASE);
         }
-        self.phase = NO_UNIT;
+        self.phase = phase::BARE_HEADER;
         Next::To(self)
     }
 
-    /// METRIC, which is unit 1, and INCH, which is unit 2.
+    // unit::METRIC, which is unit 1, and unit::INCH, which is unit 2.
     fn unit(mut self, u: u32) -> Next
         ensures { λ r. ⌜ r ≡ S.unit self u ⌝ }
     {
-        if self.phase != NO_UNIT {
+        if self.phase != phase::BARE_HEADER {
             return Next::No(WRONG_PHASE);
         }
-        self.phase = HEADER;
+        self.phase = phase::HEADER;
         self.unit = u;
         Next::To(self)
     }
 
-    /// A declaration of tool t. Its diameter is kept by its row, not by the state.
+    // A declaration of tool t. Its diameter is kept by its row, not by the state.
     fn declare(mut self, t: u32) -> Next
         ensures { λ r. ⌜ r ≡ S.declare self t ⌝ }
     {
-        if self.phase != HEADER {
+        if self.phase != phase::HEADER {
             return Next::No(WRONG_PHASE);
         }
         let declared = self.tools;
@@ -112,20 +90,20 @@ impl State {
     fn percent(mut self) -> Next
         ensures { λ r. ⌜ r ≡ S.percent self ⌝ }
     {
-        if self.phase != HEADER {
+        if self.phase != phase::HEADER {
             return Next::No(WRONG_PHASE);
         }
-        self.phase = BODY;
+        self.phase = phase::BODY;
         Next::To(self)
     }
 
     fn select(mut self, t: u32) -> Next
         ensures { λ r. ⌜ r ≡ S.select self t ⌝ }
     {
-        if self.phase != BODY {
+        if self.phase != phase::BODY {
             return Next::No(WRONG_PHASE);
         }
-        if self.motion == TOOL_DOWN {
+        if self.motion == motion::TOOL_DOWN {
             return Next::No(WRONG_MOTION);
         }
         let tools = self.tools;
@@ -136,45 +114,45 @@ impl State {
         Next::No(NOT_DECLARED)
     }
 
-    /// Drill mode begins at the origin.
+    // Drill mode begins at the origin.
     fn g05(mut self) -> Next
         ensures { λ r. ⌜ r ≡ S.g05 self ⌝ }
     {
-        if self.phase != BODY {
+        if self.phase != phase::BODY {
             return Next::No(WRONG_PHASE);
         }
-        if self.motion == TOOL_DOWN {
+        if self.motion == motion::TOOL_DOWN {
             return Next::No(WRONG_MOTION);
         }
-        self.motion = DRILL;
+        self.motion = motion::DRILL;
         let origin = Point { x: 0, y: 0 };
         self.at = origin;
         Next::To(self)
     }
 
-    /// Rout mode begins at p, with the tool up.
+    // Rout mode begins at p, with the tool up.
     fn g00(mut self, p: Point) -> Next
         ensures { λ r. ⌜ r ≡ S.g00 self p ⌝ }
     {
-        if self.phase != BODY {
+        if self.phase != phase::BODY {
             return Next::No(WRONG_PHASE);
         }
-        if self.motion == TOOL_DOWN {
+        if self.motion == motion::TOOL_DOWN {
             return Next::No(WRONG_MOTION);
         }
-        self.motion = TOOL_UP;
+        self.motion = motion::TOOL_UP;
         self.at = p;
         Next::To(self)
     }
 
-    /// A hit leaves the point as it is: its own place stands in its row.
+    // A hit leaves the point as it is: its own place stands in its row.
     fn hit(self) -> Next
         ensures { λ r. ⌜ r ≡ S.hit self ⌝ }
     {
-        if self.phase != BODY {
+        if self.phase != phase::BODY {
             return Next::No(WRONG_PHASE);
         }
-        if self.motion != DRILL {
+        if self.motion != motion::DRILL {
             return Next::No(WRONG_MOTION);
         }
         if self.tool == NO_TOOL { // nothing to drill with
@@ -183,59 +161,59 @@ impl State {
         Next::To(self)
     }
 
-    /// Tool down.
+    // Tool down.
     fn m15(mut self) -> Next
         ensures { λ r. ⌜ r ≡ S.m15 self ⌝ }
     {
-        if self.phase != BODY {
+        if self.phase != phase::BODY {
             return Next::No(WRONG_PHASE);
         }
-        if self.motion != TOOL_UP {
+        if self.motion != motion::TOOL_UP {
             return Next::No(WRONG_MOTION);
         }
         if self.tool == NO_TOOL {
             return Next::No(NO_TOOL_SELECTED);
         }
-        self.motion = TOOL_DOWN;
+        self.motion = motion::TOOL_DOWN;
         Next::To(self)
     }
 
-    /// Tool up.
+    // Tool up.
     fn m16(mut self) -> Next
         ensures { λ r. ⌜ r ≡ S.m16 self ⌝ }
     {
-        if self.phase != BODY {
+        if self.phase != phase::BODY {
             return Next::No(WRONG_PHASE);
         }
-        if self.motion != TOOL_DOWN {
+        if self.motion != motion::TOOL_DOWN {
             return Next::No(WRONG_MOTION);
         }
-        self.motion = TOOL_UP;
+        self.motion = motion::TOOL_UP;
         Next::To(self)
     }
 
-    /// A straight rout to p.
+    // A straight rout to p.
     fn g01(mut self, p: Point) -> Next
         ensures { λ r. ⌜ r ≡ S.g01 self p ⌝ }
     {
-        if self.phase != BODY {
+        if self.phase != phase::BODY {
             return Next::No(WRONG_PHASE);
         }
-        if self.motion != TOOL_DOWN { // with the tool up it is G00
+        if self.motion != motion::TOOL_DOWN { // with the tool up it is G00
             return Next::No(WRONG_MOTION);
         }
         self.at = p;
         Next::To(self)
     }
 
-    /// A rout along an arc, G02 or G03.
+    // A rout along an arc, G02 or G03.
     fn arc(mut self, a: Arc) -> Next
         ensures { λ r. ⌜ r ≡ S.arc self a ⌝ }
     {
-        if self.phase != BODY {
+        if self.phase != phase::BODY {
             return Next::No(WRONG_PHASE);
         }
-        if self.motion != TOOL_DOWN {
+        if self.motion != motion::TOOL_DOWN {
             return Next::No(WRONG_MOTION);
         }
         let from = self.at;
@@ -250,13 +228,13 @@ impl State {
     fn m30(mut self) -> Next
         ensures { λ r. ⌜ r ≡ S.m30 self ⌝ }
     {
-        if self.phase != BODY {
+        if self.phase != phase::BODY {
             return Next::No(WRONG_PHASE);
         }
-        if self.motion == TOOL_DOWN { // the run ends with the tool up
+        if self.motion == motion::TOOL_DOWN { // the run ends with the tool up
             return Next::No(WRONG_MOTION);
         }
-        self.phase = ENDED;
+        self.phase = phase::OVER;
         Next::To(self)
     }
 
@@ -267,8 +245,8 @@ impl State {
         match c {
             Command::Comment => self.comment(),
             Command::M48 => self.m48(),
-            Command::Metric => self.unit(METRIC),
-            Command::Inch => self.unit(INCH),
+            Command::Metric => self.unit(unit::METRIC),
+            Command::Inch => self.unit(unit::INCH),
             Command::Declare(t, _) => self.declare(t),
             Command::Percent => self.percent(),
             Command::G05 => self.g05(),
@@ -284,10 +262,11 @@ impl State {
         }
     }
 
+    /// Whether the last command has come.
     pub fn has_ended(self) -> bool
         ensures { λ r. ⌜ r ≡ S.hasEnded self ⌝ }
     {
-        self.phase == ENDED
+        self.phase == phase::OVER
     }
 
     /// Whether two states agree in all ten numbers.

@@ -9,9 +9,10 @@ use native.Mathlib.Nat.{add-zero}
 use lib.ListN.{length, take, drop, length-append, take-append-drop}
 use lib.Seq.{take-append-le, take-append-add, take-append-seam, drop-append-add, take-all, length-take-le}
 use Rattle.lists.specs.Put.{putAt}
-use Rattle.runs.specs.Machine.{Out, yields, stops, accepted, refused, Row, holds, allHold, lastOf, run, rerun, Follows}
+use Rattle.runs.specs.Machine.{Out, yields, stops, refused, Row, holds, allHold, lastOf, run, rerun, nil, link, Follows, StepBy}
 use Rattle.runs.specs.Agreement.{stateAfter, FirstAgreement}
-use Rattle.runs.proofs.Append.{befores, Reads, none, line, run-append}
+use Rattle.runs.proofs.Chains.{chain-append, follows-tail, follows-first, follows-rest}
+use Rattle.runs.proofs.Append.{befores, Reads, run-append}
 use Rattle.runs.proofs.Rerun.{told, rerun-line, run-unread}
 use Rattle.runs.proofs.Meeting.{Redone, redone-upto, redone-some, redone-differ, redone-agrees, redone-follows, Ended}
 
@@ -32,17 +33,17 @@ module _ {L C S R : Type 0} (read : ℕ → L → Out C R) (step : S → C → O
   pub reads-around : (p : S) (xs : List L) (l : L) (ys : List L) (i : ℕ) (rs : List (Row C S)) → Reads read step p (xs ++ (l ∷ ys)) i rs
       → Around read step p xs l ys i rs
   unfolding lastOf
-  reads-around p [] l ys i rs (line {r = r} {rs = ss} e f h) = record {
+  reads-around p [] l ys i rs (link {r = r} {rs = ss} e f h) = record {
     first = [];
     here = r;
     rest = ss;
     parts = refl;
-    reads-first = none;
+    reads-first = nil;
     reads-here = rw (add-zero i) e;
     steps-here = f;
     reads-rest = rw (add-zero i) h;
   }
-  reads-around p (x ∷ xs) l ys i rs (line {r = r} {rs = ss} e f h) =
+  reads-around p (x ∷ xs) l ys i rs (link {r = r} {rs = ss} e f h) =
       let a = reads-around (r .state) xs l ys (i + 1) ss h in
       let n : i + 1 + length xs ≡ i + suc (length xs) = omega arith in
       record {
@@ -50,7 +51,7 @@ module _ {L C S R : Type 0} (read : ℕ → L → Out C R) (step : S → C → O
         here = a .here;
         rest = a .rest;
         parts = ap (λ (z : List (Row C S)). r ∷ z) (a .parts);
-        reads-first = line e f (a .reads-first);
+        reads-first = link e f (a .reads-first);
         reads-here = rw n at (a .reads-here);
         steps-here = a .steps-here;
         reads-rest = rw n at (a .reads-rest);
@@ -84,44 +85,29 @@ module _ {C S : Type 0} where
 
 -- ---- the edited run
 
-module _ {L C S R : Type 0} (read : ℕ → L → Out C R) (step : S → C → Out S R) (same : S → S → Bool) (ended : S → Bool) (short badRow : R)
+module _ {L C S R : Type 0} (read : ℕ → L → Out C R) (step : S → C → Out S R) (same : S → S → Bool) (final : S → Bool) (short badRow : R)
     (same-eq : (a b : S) → same a b ≡ true → a ≡ b)
     (p : S) (xs : List L) (ys : List L) (i : ℕ) (os bs : List (Row C S)) (o : S)
-    (g : Reads read step p xs i os) (h : Reads read step o ys (i + length xs + 1) bs) (d : ended (lastOf o bs) ≡ true) (l : L) where
+    (g : Reads read step p xs i os) (h : Reads read step o ys (i + length xs + 1) bs) (d : final (lastOf o bs) ≡ true) (l : L) where
   pub edit-run : (c : C) → read (i + length xs + 1) l ≡ yields c
-      → run read step ended short p (xs ++ (l ∷ ys)) i
-      ≡ befores os (told (record { command = c; state = o } ∷ bs) (rerun step same ended badRow short (lastOf p os) (holds (record { command = c; state = o }) ∷ allHold bs) (i + length xs)))
+      → run read step final short p (xs ++ (l ∷ ys)) i
+      ≡ befores os (told (record { command = c; state = o } ∷ bs) (rerun step same final badRow short (lastOf p os) (holds (record { command = c; state = o }) ∷ allHold bs) (i + length xs)))
   edit-run c e =
-      run-append read step ended short g (l ∷ ys)
-      ∙ ap (befores os) (rerun-line read step same ended short badRow same-eq l ys (record { command = c; state = o }) bs (i + length xs) e h d (lastOf p os))
+      run-append read step final short g (l ∷ ys)
+      ∙ ap (befores os) (rerun-line read step same final short badRow same-eq l ys (record { command = c; state = o }) bs (i + length xs) e h d (lastOf p os))
 
-  pub edit-unread : (e : R) → read (i + length xs + 1) l ≡ stops e → run read step ended short p (xs ++ (l ∷ ys)) i ≡ refused e (i + length xs + 1)
+  pub edit-unread : (e : R) → read (i + length xs + 1) l ≡ stops e → run read step final short p (xs ++ (l ∷ ys)) i ≡ refused e (i + length xs + 1)
   edit-unread e w =
-      run-append read step ended short g (l ∷ ys)
-      ∙ ap (befores os) (run-unread read step same ended short badRow same-eq l ys (i + length xs) e w (lastOf p os))
+      run-append read step final short g (l ∷ ys)
+      ∙ ap (befores os) (run-unread read step same final short badRow same-eq l ys (i + length xs) e w (lastOf p os))
 
 -- ---- the rows of the edited run
 
-module _ {C S R : Type 0} (step : S → C → Out S R) where
-  pub follows-append : (p : S) (xs ys : List (Row C S)) → Follows step p xs → Follows step (lastOf p xs) ys → Follows step p (xs ++ ys)
-  unfolding lastOf
-  follows-append p [] ys g h = h
-  follows-append p (x ∷ xs) ys g h = (g .0, follows-append (x .state) xs ys (g .1) h)
-
-  pub follows-first : (p : S) (xs ys : List (Row C S)) → Follows step p (xs ++ ys) → Follows step p xs
-  follows-first p [] ys g = tt
-  follows-first p (x ∷ xs) ys g = (g .0, follows-first (x .state) xs ys (g .1))
-
-  pub follows-rest : (p : S) (xs ys : List (Row C S)) → Follows step p (xs ++ ys) → Follows step (lastOf p xs) ys
-  unfolding lastOf
-  follows-rest p [] ys g = g
-  follows-rest p (x ∷ xs) ys g = follows-rest (x .state) xs ys (g .1)
-
 -- rows os, r, bs, of which r gets the command c, and the rows ns that a rerun from there makes
-module _ {C S R : Type 0} (step : S → C → Out S R) (ended : S → Bool) (p : S) (os : List (Row C S)) (r : Row C S) (c : C) (bs ns : List (Row C S))
-    (h : Redone step ended (lastOf p os) (record { command = c; state = r .state } ∷ bs) ns) where
+module _ {C S R : Type 0} (step : S → C → Out S R) (final : S → Bool) (p : S) (os : List (Row C S)) (r : Row C S) (c : C) (bs ns : List (Row C S))
+    (h : Redone step final (lastOf p os) (record { command = c; state = r .state } ∷ bs) ns) where
   redone-any : 0 < length ns
-  redone-any = redone-some step ended h (omega arith)
+  redone-any = redone-some step final h (omega arith)
 
   -- they stand in the place of as many old ones
   pub splice-put : os ++ (ns ++ drop (length ns) (record { command = c; state = r .state } ∷ bs)) ≡ putAt (os ++ (r ∷ bs)) (length os) ns
@@ -138,7 +124,7 @@ module _ {C S R : Type 0} (step : S → C → Out S R) (ended : S → Bool) (p :
   splice-differ : (j : ℕ) → suc j < length ns
       → stateAfter p (os ++ (r ∷ bs)) (length os + suc j) ≡ stateAfter p (putAt (os ++ (r ∷ bs)) (length os) ns) (length os + suc j) → ⊥
   splice-differ j b e =
-      redone-differ step ended h (lastOf p os) j b
+      redone-differ step final h (lastOf p os) j b
       (after-command (lastOf p os) r c bs j ∙ sym (after-append p os (r ∷ bs) (suc j)) ∙ e ∙ splice-after (suc j) (omega arith))
 
   splice-agrees : (m : ℕ) → m ≡ length ns → m < suc (length bs)
@@ -147,14 +133,14 @@ module _ {C S R : Type 0} (step : S → C → Out S R) (ended : S → Bool) (p :
   splice-agrees (suc m) e b =
       after-append p os (r ∷ bs) (suc m) ∙ sym (after-command (lastOf p os) r c bs m)
       ∙ ap (stateAfter (lastOf p os) (record { command = c; state = r .state } ∷ bs)) e
-      ∙ redone-agrees step ended h (lastOf p os) (omega arith)
+      ∙ redone-agrees step final h (lastOf p os) (omega arith)
       ∙ ap (lastOf (lastOf p os)) (sym (take-all (suc m) ns (omega arith))) ∙ sym (splice-after (suc m) (omega arith))
 
   -- they end at the first agreement of old and new states
   pub splice-meets : FirstAgreement p (os ++ (r ∷ bs)) (putAt (os ++ (r ∷ bs)) (length os) ns) (length os + 1) (length os + length ns)
   splice-meets = record {
     from = omega (arith, redone-any);
-    upto = omega (arith, redone-upto step ended h, length-append os (r ∷ bs));
+    upto = omega (arith, redone-upto step final h, length-append os (r ∷ bs));
     differ = λ j a b e.
         let n : length os + suc (j - (length os + 1)) ≡ j = omega arith in
         splice-differ (j - (length os + 1)) (omega arith) (rw n e);
@@ -162,13 +148,14 @@ module _ {C S R : Type 0} (step : S → C → Out S R) (ended : S → Bool) (p :
   }
 
   -- and with the old ones around them they make a table
-  pub splice-follows : Follows step p (os ++ (r ∷ bs)) → ended (lastOf p (os ++ (r ∷ bs))) ≡ true → Ended step ended p (putAt (os ++ (r ∷ bs)) (length os) ns)
+  pub splice-follows : Follows (StepBy step) p 0 (os ++ (r ∷ bs)) → final (lastOf p (os ++ (r ∷ bs))) ≡ true
+      → Ended step final p 0 (putAt (os ++ (r ∷ bs)) (length os) ns)
   unfolding lastOf
   splice-follows g d =
-      let f = follows-rest step p os (r ∷ bs) g in
-      let a = redone-follows step ended h (f .1) (rw (last-append p os (r ∷ bs)) at d) in
+      let f = follows-rest os (r ∷ bs) g in
+      let a = redone-follows step final (0 + length os) h (follows-tail f) (rw (last-append p os (r ∷ bs)) at d) in
       let new : List (Row C S) = ns ++ drop (length ns) (record { command = c; state = r .state } ∷ bs) in
-      subst (Ended step ended p) splice-put (record {
-        follows = follows-append step p os new (follows-first step p os (r ∷ bs) g) (a .follows);
+      subst (Ended step final p 0) splice-put (record {
+        follows = chain-append (follows-first os (r ∷ bs) g) (a .follows);
         ends = rw (last-append p os new) (a .ends);
       })

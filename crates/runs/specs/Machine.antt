@@ -2,10 +2,9 @@
 -- read as a command and taken in turn; a table is such a run written down, a row for each line; an edit reruns the
 -- table from one line on until old and new states agree.
 use mathlib.Core.Path.{_≡_}
-use mathlib.Core.Bool.{Bool, true, false}
+use mathlib.Core.Bool.{Bool, cond}
 use mathlib.Core.List.{List, [], _∷_}
 use Prim.Native.Nat.{ℕ, _+_}
-use Rattle.lists.specs.Choice.{pick}
 
 -- something, or a refusal
 pub data Out (A R : Type 0) : Type 0 where
@@ -54,42 +53,61 @@ abbrev pub widen : {C S R : Type 0} → Row C S → Verdict (Span C S) R → Ver
 widen r (accepted s) = accepted (record { meeting = s .meeting; rows = r ∷ s .rows })
 widen r (refused e i) = refused e i
 
--- the state after some rows
+-- the commands of some rows, and the state after them
+unfoldable pub commandsOf : {C S : Type 0} → List (Row C S) → List C
+commandsOf [] = []
+commandsOf (r ∷ rs) = r .command ∷ commandsOf rs
+
 unfoldable pub lastOf : {C S : Type 0} → S → List (Row C S) → S
 lastOf p [] = p
 lastOf p (r ∷ rs) = lastOf (r .state) rs
 
-module _ {L C S R : Type 0} (read : ℕ → L → Out C R) (step : S → C → Out S R) (ended : S → Bool) (short : R) where
+module _ {L C S R : Type 0} (read : ℕ → L → Out C R) (step : S → C → Out S R) (final : S → Bool) (short : R) where
   -- lines after i others, from state p: each is read, given its number, and taken. The first fault refuses at its line;
   -- where the lines end too soon, the refusal is at the line that is missing.
   unfoldable pub run : S → List L → ℕ → Verdict (List (Row C S)) R
-  run p [] i = pick (ended p) (accepted []) (refused short (i + 1))
+  run p [] i = cond (final p) (accepted []) (refused short (i + 1))
   run p (l ∷ ls) i =
       onOut (read (i + 1) l) (λ e. refused e (i + 1))
       (λ c. onOut (step p c) (λ e. refused e (i + 1)) (λ q. before (record { command = c; state = q }) (run q ls (i + 1))))
 
-module _ {C S R : Type 0} (step : S → C → Out S R) (same : S → S → Bool) (ended : S → Bool) (badRow : R) where
+module _ {C S R : Type 0} (step : S → C → Out S R) (same : S → S → Bool) (final : S → Bool) (badRow : R) where
   -- Rows after i others rerun from state p, up to the first line after which the new state is the one that stands
   -- there: the meeting line. Each row is tested before it is taken. Past the last row the run must have ended.
   unfoldable pub rerun : R → S → List (Entry C S) → ℕ → Verdict (Span C S) R
-  rerun short p [] i = pick (ended p) (accepted (record { meeting = i; rows = [] })) (refused short (i + 1))
+  rerun short p [] i = cond (final p) (accepted (record { meeting = i; rows = [] })) (refused short (i + 1))
   rerun short p (bad ∷ es) i = refused badRow (i + 1)
   rerun short p (holds r ∷ es) i =
       onOut (step p (r .command)) (λ e. refused e (i + 1))
-      (λ q. pick (same q (r .state))
+      (λ q. cond (same q (r .state))
       (accepted (record { meeting = i + 1; rows = record { command = r .command; state = q } ∷ [] }))
       (widen (record { command = r .command; state = q }) (rerun short q es (i + 1))))
 
   -- Rows after i others, each of which must follow from state p and the row before it; the last must have ended.
   unfoldable pub follow : S → List (Entry C S) → ℕ → Verdict (List (Row C S)) R
-  follow p [] i = pick (ended p) (accepted []) (refused badRow i)
+  follow p [] i = cond (final p) (accepted []) (refused badRow i)
   follow p (bad ∷ es) i = refused badRow (i + 1)
   follow p (holds r ∷ es) i =
       onOut (step p (r .command)) (λ _. refused badRow (i + 1))
-      (λ q. pick (same q (r .state)) (before r (follow q es (i + 1))) (refused badRow (i + 1)))
+      (λ q. cond (same q (r .state)) (before r (follow q es (i + 1))) (refused badRow (i + 1)))
 
-module _ {C S R : Type 0} (step : S → C → Out S R) where
-  -- each state follows from the one before
-  abbrev pub Follows : S → List (Row C S) → Type 0
-  Follows p [] = Unit {0}
-  Follows p (r ∷ rs) = (step p (r .command) ≡ yields (r .state)) × Follows (r .state) rs
+-- ---- chains of rows
+
+-- Lines after i others, from state p, and their rows, one for each: a line, given its number, reads as its row's command,
+-- which is taken from the state before to its row's state. What reads as what, and what is taken, are any two relations.
+pub data Chain {L C S : Type 0} (Reads : ℕ → L → C → Type 0) (Takes : S → C → S → Type 0) : S → ℕ → List L → List (Row C S) → Type 0 where
+  nil : {p : S} {i : ℕ} → Chain Reads Takes p i [] []
+  link : {p : S} {l : L} {ls : List L} {i : ℕ} {r : Row C S} {rs : List (Row C S)}
+      → Reads (i + 1) l (r .command) → Takes p (r .command) (r .state) → Chain Reads Takes (r .state) (i + 1) ls rs
+      → Chain Reads Takes p i (l ∷ ls) (r ∷ rs)
+
+-- rows by themselves: each state follows from the one before
+abbrev pub Follows : {C S : Type 0} → (S → C → S → Type 0) → S → ℕ → List (Row C S) → Type 0
+Follows Takes p i rs = Chain (λ _ r c. r .command ≡ c) Takes p i rs rs
+
+-- the relations of a machine: what a line is read as, and where a step leads
+abbrev pub ReadBy : {L C R : Type 0} → (ℕ → L → Out C R) → ℕ → L → C → Type 0
+ReadBy read i l c = read i l ≡ yields c
+
+abbrev pub StepBy : {C S R : Type 0} → (S → C → Out S R) → S → C → S → Type 0
+StepBy step p c q = step p c ≡ yields q

@@ -1,6 +1,7 @@
 // What the programs print and read: lines on standard output, each made by crate print; a file from standard input.
 ghost use lib.ListN.{length};
 ghost use Rattle.show.specs.Got.{Got, GotLine};
+use print::LINE_ROOM;
 use rules::Hole;
 use rules::Refusal;
 
@@ -33,20 +34,21 @@ const STDOUT: i32 = 1;
 
 const STDERR: i32 = 2;
 
+/// Bytes as they are.
 pub fn word(text: &[u8]) {
     io::write_all(STDOUT, text);
 }
 
 /// A line of a word and at most four numbers, parted by tabs.
 pub fn numbers(word: &[u8], numbers: &[u64]) {
-    let mut block = [0u8; 128];
+    let mut block = [0u8; LINE_ROOM];
     let length = print::numbers_line(&mut block, word, numbers);
     io::write_all(STDOUT, &block[..length]);
 }
 
 /// A line's hole.
 pub fn hole(line: usize, hole: Hole) {
-    let mut block = [0u8; 128];
+    let mut block = [0u8; LINE_ROOM];
     let length = print::hole_line(&mut block, line, hole);
     io::write_all(STDOUT, &block[..length]);
 }

@@ -1,6 +1,3 @@
-pub mod Tests
-pub mod Rows
-pub mod Entries
-pub mod Capped
-pub mod ReadBack
-pub mod Outcomes
+pub mod Looks
+pub mod Puts
+pub mod PutFound

@@ -1,70 +1,33 @@
--- Rows in lent numbers: one looked at, and one put in. `i` counts the rows before it.
+-- A table in lent numbers: a row looked at, one that follows, and one put in. `i` counts the rows before it.
+use mathlib.Core.Bool.{cond}
 use mathlib.Core.List.{List}
-use Prim.Native.Nat.{ℕ, _+_, _*_}
+use Prim.Native.Nat.{ℕ, _+_, _-_, _*_}
 use lib.Dec.{leb}
 use lib.IntN.{ℤ}
 use lib.ListN.{length, take, drop}
-use Rattle.lists.specs.Choice.{pick}
 use Rattle.lists.specs.Put.{putAt}
-use Rattle.rules.specs.declared.Arc.{Arc}
-use Rattle.rules.specs.declared.Tools.{Tools}
+use Rattle.runs.specs.Machine.{onOut, Entry}
 use Rattle.rules.specs.declared.Command.{Command}
-use Rattle.rules.specs.declared.Command.the-variants.{Comment, M48, Metric, Inch, Declare, Percent, G05, G00, Select, Hit, M15, M16, G01, G02, G03, M30}
 use Rattle.rules.specs.declared.State.{State}
-use Rattle.rules.specs.declared.Row.{Row}
 use Rattle.rules.specs.declared.Looked.{Looked}
-use Rattle.rules.specs.declared.Looked.the-variants.{Bad}
-use Rattle.rules.specs.Rows.{rowWidth, rowNumbers, lookOf}
+use Rattle.rules.specs.declared.Looked.the-variants.{Holds, Bad}
+use Rattle.rules.specs.State.{taken, sameState}
+use Rattle.rules.specs.Rows.{rowWidth, lookOf, entryOf}
+use Rattle.row.specs.Row.{cappedNumbers}
 
 -- the row after i others; past the end there is none
 unfoldable pub lookAt : List ℤ → ℕ → Looked
-lookAt t i = pick (leb (rowWidth * i + rowWidth) (length t)) (lookOf (take rowWidth (drop (rowWidth * i) t))) Bad
+lookAt t i = cond (leb (rowWidth * i + rowWidth) (length t)) (lookOf (take rowWidth (drop (rowWidth * i) t))) Bad
 
--- ---- a row that a signed number cannot hold: each of its numbers is capped, so that it never looks whole
+-- the row of line k, as it is found; lines count from 1
+abbrev pub rowAt : List ℤ → ℕ → Entry Command State
+rowAt t k = entryOf (lookAt t (k - 1))
 
-abbrev pub maxSigned : ℕ
-maxSigned = 2147483647
+-- a row looked at, where its command may come after state p and its own state is the one that comes of it
+unfoldable pub followed : State → Looked → Looked
+followed p (Holds c s) = onOut (taken p c) (λ _. Bad) (λ q. cond (sameState q s) (Holds c s) Bad)
+followed p Bad = Bad
 
-unfoldable pub capped : ℕ → ℕ
-capped n = pick (leb n maxSigned) n maxSigned
-
-abbrev pub cappedArc : Arc → Arc
-cappedArc a = record { to = a .to; radius = capped (a .radius) }
-
-unfoldable pub cappedCommand : Command → Command
-cappedCommand Comment = Comment
-cappedCommand M48 = M48
-cappedCommand Metric = Metric
-cappedCommand Inch = Inch
-cappedCommand (Declare t d) = Declare (capped t) (capped d)
-cappedCommand Percent = Percent
-cappedCommand G05 = G05
-cappedCommand (G00 p) = G00 p
-cappedCommand (Select t) = Select (capped t)
-cappedCommand (Hit p) = Hit p
-cappedCommand M15 = M15
-cappedCommand M16 = M16
-cappedCommand (G01 p) = G01 p
-cappedCommand (G02 a) = G02 (cappedArc a)
-cappedCommand (G03 a) = G03 (cappedArc a)
-cappedCommand M30 = M30
-
-abbrev pub cappedTools : Tools → Tools
-cappedTools d = record { a = capped (d .a); b = capped (d .b); c = capped (d .c); d = capped (d .d) }
-
-unfoldable pub cappedState : State → State
-cappedState s = record {
-  phase = capped (s .phase);
-  unit = capped (s .unit);
-  motion = capped (s .motion);
-  tool = capped (s .tool);
-  at = s .at;
-  tools = cappedTools (s .tools);
-}
-
-unfoldable pub cappedNumbers : Row → List ℤ
-cappedNumbers r = rowNumbers (record { command = cappedCommand (r .command); state = cappedState (r .state) })
-
--- the numbers with that row after i others; past the end nothing changes
-unfoldable pub putRow : List ℤ → ℕ → Row → List ℤ
-putRow t i r = pick (leb (rowWidth * i + rowWidth) (length t)) (putAt t (rowWidth * i) (cappedNumbers r)) t
+-- the numbers with a row after i others; past the end nothing changes
+unfoldable pub putRow : List ℤ → ℕ → Command → State → List ℤ
+putRow t i c s = cond (leb (rowWidth * i + rowWidth) (length t)) (putAt t (rowWidth * i) (cappedNumbers c s)) t

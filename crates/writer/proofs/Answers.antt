@@ -1,37 +1,33 @@
 -- The answer of writing and the bytes it leaves, one law for each way out.
-use mathlib.Core.Path.{_≡_, refl, sym, ap, _∙_, subst}
+use mathlib.Core.Path.{_≡_, refl, sym, ap, _∙_}
 use mathlib.Core.Bool.{Bool, true, false, not}
 use mathlib.Core.List.{List}
-use Prim.Native.Nat.{ℕ, _+_, _*_, _<_, _≤_}
+use Prim.Native.Nat.{ℕ, _+_, _<_, _≤_}
 use native.Mathlib.Omega.{arith}
 use borrow.Author.Tests.{not-true, not-false, le-leb, lt-leb}
 use lib.IntN.{ℤ}
 use lib.ListN.{length}
-use Rattle.lists.specs.Put.{putAt}
+use Rattle.lists.specs.Put.{putAt, putIn}
+use Rattle.lists.proofs.Put.{fitting-all}
 use Rattle.runs.specs.Machine.{Verdict, accepted, refused, onVerdict}
 use Rattle.rules.specs.declared.Refusal.{Refusal}
 use Rattle.rules.specs.declared.Answer.{Answer}
 use Rattle.rules.specs.declared.Answer.the-variants.{Done, Refused}
 use Rattle.rules.specs.Refusals.{badTable, noRoom}
 use Rattle.rules.specs.State.{start}
-use Rattle.rules.specs.Numbers.{maxLines}
-use Rattle.rules.specs.Rows.{rowWidth, entriesOf, sizesFit}
+use Rattle.rules.specs.Rows.{entriesOf, sizesFit}
 use Rattle.rules.specs.Reading.{Rows}
-use Rattle.rules.specs.Writing.{textOfRows, rowsOf, inBlock, withText, writeAnswer, writeLeaves}
-use Rattle.query.proofs.Tests.{sizes-say}
-use Rattle.writer.specs.Walk.{followFrom, bytesFrom, textOfEntries}
+use Rattle.rules.specs.Writing.{textOfRows, followFrom, rowsOf, inBlock, withText, writeAnswer, writeLeaves}
+use Rattle.laws.proofs.Sizes.{Sizes, sizes-say}
+use Rattle.writer.specs.Walk.{bytesFrom, textOfEntries}
 use Rattle.writer.proofs.Walk.{text-follows}
 
 abbrev WriteIs : List ℤ → ℕ → List ℕ → Answer → List ℕ → Type 0
 WriteIs t n b r b′ = (r ≡ writeAnswer t n b) × (b′ ≡ writeLeaves t n b)
 
-abbrev IsDone : Answer → Type 0
-IsDone (Done m) = Unit {0}
-IsDone (Refused e i) = ⊥
-
 -- what measuring tells says what the verdict is
 verdict-refused : (v : Verdict Rows Refusal) (e : Refusal) (i : ℕ) → Refused e i ≡ bytesFrom 0 v → v ≡ refused e i
-verdict-refused (accepted rs) e i q = absurd (subst IsDone (sym q) tt)
+verdict-refused (accepted rs) e i q = absurd (let z : _≡_ {A = ℕ} 0 1 = cc in omega arith)
 verdict-refused (refused f j) e i q = cc
 
 -- rows that follow, and how long their text is
@@ -42,10 +38,10 @@ record Measured (v : Verdict Rows Refusal) (m : ℕ) : Type 0 where
 
 measured : (v : Verdict Rows Refusal) (m : ℕ) → Done m ≡ bytesFrom 0 v → Measured v m
 measured (accepted rs) m q = record { rows = rs; verdict = refl; long = let e : 0 + length (textOfRows rs) ≡ length (textOfRows rs) = omega arith in cc }
-measured (refused f j) m q = absurd (subst IsDone q tt)
+measured (refused f j) m q = absurd (let z : _≡_ {A = ℕ} 0 1 = cc in omega arith)
 
-pub rows-fit : (t : List ℤ) (n : ℕ) {fit : Bool} → fit ≡ sizesFit t n → not fit ≡ false → (rowWidth * n ≤ length t) × (n ≤ maxLines)
-rows-fit t n {fit} fe f = let s = sizes-say t n (sym fe ∙ not-false fit f) in (s .room, s .high)
+pub rows-fit : (t : List ℤ) (n : ℕ) {fit : Bool} → fit ≡ sizesFit t n → not fit ≡ false → Sizes t n
+rows-fit t n {fit} fe f = sizes-say t n (sym fe ∙ not-false fit f)
 
 module _ (t : List ℤ) (n : ℕ) (b : List ℕ) where
   from-verdict : (v : Verdict Rows Refusal) → rowsOf t n ≡ v → (r : Answer) (b′ : List ℕ)
@@ -70,19 +66,15 @@ module _ (t : List ℤ) (n : ℕ) (b : List ℕ) where
         all : Measured (followFrom start (entriesOf n t) 0) m
         all = measured (followFrom start (entriesOf n t) 0) m (sym g ∙ ae)
 
-        text-is : textOfEntries (entriesOf n t) ≡ textOfRows (all .rows)
-        text-is = text-follows start (entriesOf n t) 0 (all .rows) (all .verdict)
-
         pub write-no-room : length b < m → WriteIs t n b (Refused noRoom 0) b
         write-no-room h =
             let e = lt-leb (length (textOfRows (all .rows))) (length b) (rw (all .long) at h) in
             from-verdict (accepted (all .rows)) (rows-are ∙ all .verdict) (Refused noRoom 0) b (rw e, rw e)
 
-        module _ (h : m ≤ length b) where
-          pub text-fits : (rowWidth * n ≤ length t) × (length (textOfEntries (entriesOf n t)) ≤ length b)
-          text-fits = (rows-fit t n fe f .0, rw (text-is, ← all .long) h)
-
-          pub write-done : (b′ : List ℕ) → b′ ≡ putAt b 0 (textOfEntries (entriesOf n t)) → WriteIs t n b (Done m) b′
-          write-done b′ w =
-              let e = le-leb (length (textOfRows (all .rows))) (length b) (rw (all .long) at h) in
-              from-verdict (accepted (all .rows)) (rows-are ∙ all .verdict) (Done m) b′ (rw e (ap Done (all .long)), rw e (w ∙ ap (putAt b 0) text-is))
+        pub write-done : m ≤ length b → (b′ : List ℕ) → b′ ≡ putIn b 0 (textOfEntries (entriesOf n t)) → WriteIs t n b (Done m) b′
+        write-done h b′ w =
+            let x = textOfRows (all .rows) in
+            let e = le-leb (length x) (length b) (rw (all .long) at h) in
+            let fits = fitting-all b 0 x (omega (arith, all .long)) in
+            from-verdict (accepted (all .rows)) (rows-are ∙ all .verdict) (Done m) b′
+            (rw e (ap Done (all .long)), rw e (w ∙ ap (putIn b 0) (text-follows start (entriesOf n t) 0 (all .rows) (all .verdict)) ∙ ap (putAt b 0) fits))

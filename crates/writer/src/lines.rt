@@ -1,22 +1,23 @@
-// Lines as text: how long it is, and its bytes. Each function that writes does so from place `at` on and hands back the
-// place after its text.
-use crate::numbers::coordinate_length;
-use crate::numbers::number_length;
-use crate::numbers::put_byte;
-use crate::numbers::put_coordinate;
-use crate::numbers::put_digits;
-use crate::numbers::put_number;
-use rules::Arc;
+// Lines as text: how long it is, and its bytes. Each function that writes does so from place `at` on, as crate text has it, and
+// hands back the place after its text.
+use points::Arc;
+use points::Point;
 use rules::Command;
-use rules::Point;
+use text::coordinate_length;
+use text::number_length;
+use text::put_byte;
+use text::put_coordinate;
+use text::put_digits;
+use text::put_number;
+use text::put_word;
 ghost use mathlib.Core.Path.{_≡_};
 ghost use mathlib.Core.List.{_++_};
-ghost use Prim.Native.Nat.{_+_, _≤_};
+ghost use Prim.Native.Nat.{_≤_};
 ghost use lib.ListN.{length};
 ghost use Rattle.lists.specs.Words.{bytes};
 ghost use Rattle.rules.specs.declared.Command.the-variants.{Declare, Select};
-ghost use Rattle.rules.specs.Writing.{toolText, pointText, arcText, ended, lineText};
-ghost use Rattle.writer.specs.Wrote.{Wrote};
+ghost use Rattle.rules.specs.Writing.{toolText, pointText, arcText, withLF, lineText, longestLine};
+ghost use Rattle.text.specs.Wrote.{Wrote};
 
 // ---- lengths
 
@@ -34,7 +35,7 @@ fn arc_length(a: Arc) -> usize
 }
 
 pub(crate) fn line_length(c: Command) -> usize
-    ensures { λ r. ⌜ (r ≡ length (lineText c)) × (r ≤ 39) ⌝ }
+    ensures { λ r. ⌜ (r ≡ length (lineText c)) × (r ≤ longestLine) ⌝ }
 {
     match c {
         Command::Comment => 0,
@@ -58,29 +59,15 @@ pub(crate) fn line_length(c: Command) -> usize
 
 // ---- bytes
 
-fn put_word(b: &mut [u8], at: usize, word: &[u8]) -> usize
-    requires { ⌜ at + length (now word) ≤ length (now b) ⌝ }
-    ensures { λ r. ⌜ Wrote (now (b .entry)) at (now (word .entry)) (now (b .exit)) r ⌝ }
-{
-    let mut i = 0;
-    while i < word.len() {
-        b[at + i] = word[i];
-        i += 1;
-    }
-    at + i
-}
-
-/// T and two digits.
+// T and two digits.
 fn put_tool(b: &mut [u8], at: usize, t: u32) -> usize
-    requires { ⌜ at + length (bytes "T" ++ toolText t) ≤ length (now b) ⌝ }
     ensures { λ r. ⌜ Wrote (now (b .entry)) at (bytes "T" ++ toolText t) (now (b .exit)) r ⌝ }
 {
     let digits = put_byte(b, at, b'T');
-    put_digits(b, digits, 2, t)
+    put_digits(b, digits, 2, t as u64)
 }
 
 fn put_point(b: &mut [u8], at: usize, p: Point) -> usize
-    requires { ⌜ at + length (pointText p) ≤ length (now b) ⌝ }
     ensures { λ r. ⌜ Wrote (now (b .entry)) at (pointText p) (now (b .exit)) r ⌝ }
 {
     let x = put_byte(b, at, b'X');
@@ -90,7 +77,6 @@ fn put_point(b: &mut [u8], at: usize, p: Point) -> usize
 }
 
 fn put_arc(b: &mut [u8], at: usize, a: Arc) -> usize
-    requires { ⌜ at + length (arcText a) ≤ length (now b) ⌝ }
     ensures { λ r. ⌜ Wrote (now (b .entry)) at (arcText a) (now (b .exit)) r ⌝ }
 {
     let to = a.to;
@@ -100,7 +86,6 @@ fn put_arc(b: &mut [u8], at: usize, a: Arc) -> usize
 }
 
 fn put_declaration(b: &mut [u8], at: usize, t: u32, d: u32) -> usize
-    requires { ⌜ at + length (lineText (Declare t d)) ≤ length (now b) ⌝ }
     ensures { λ r. ⌜ Wrote (now (b .entry)) at (lineText (Declare t d)) (now (b .exit)) r ⌝ }
 {
     let tool_end = put_tool(b, at, t);
@@ -110,7 +95,6 @@ fn put_declaration(b: &mut [u8], at: usize, t: u32, d: u32) -> usize
 }
 
 fn put_selection(b: &mut [u8], at: usize, t: u32) -> usize
-    requires { ⌜ at + length (lineText (Select t)) ≤ length (now b) ⌝ }
     ensures { λ r. ⌜ Wrote (now (b .entry)) at (lineText (Select t)) (now (b .exit)) r ⌝ }
 {
     let end = put_tool(b, at, t);
@@ -118,8 +102,7 @@ fn put_selection(b: &mut [u8], at: usize, t: u32) -> usize
 }
 
 fn put_point_line(b: &mut [u8], at: usize, word: &[u8], p: Point) -> usize
-    requires { ⌜ at + length (ended (now word ++ pointText p)) ≤ length (now b) ⌝ }
-    ensures { λ r. ⌜ Wrote (now (b .entry)) at (ended (now (word .entry) ++ pointText p)) (now (b .exit)) r ⌝ }
+    ensures { λ r. ⌜ Wrote (now (b .entry)) at (withLF (now (word .entry) ++ pointText p)) (now (b .exit)) r ⌝ }
 {
     let word_end = put_word(b, at, word);
     let end = put_point(b, word_end, p);
@@ -127,17 +110,15 @@ fn put_point_line(b: &mut [u8], at: usize, word: &[u8], p: Point) -> usize
 }
 
 fn put_arc_line(b: &mut [u8], at: usize, word: &[u8], a: Arc) -> usize
-    requires { ⌜ at + length (ended (now word ++ arcText a)) ≤ length (now b) ⌝ }
-    ensures { λ r. ⌜ Wrote (now (b .entry)) at (ended (now (word .entry) ++ arcText a)) (now (b .exit)) r ⌝ }
+    ensures { λ r. ⌜ Wrote (now (b .entry)) at (withLF (now (word .entry) ++ arcText a)) (now (b .exit)) r ⌝ }
 {
     let word_end = put_word(b, at, word);
     let end = put_arc(b, word_end, a);
     put_byte(b, end, b'\n')
 }
 
-/// A command's line with its LF. A comment is dropped.
+// A command's line with its LF. A comment is dropped.
 pub(crate) fn put_line(b: &mut [u8], at: usize, c: Command) -> usize
-    requires { ⌜ at + length (lineText c) ≤ length (now b) ⌝ }
     ensures { λ r. ⌜ Wrote (now (b .entry)) at (lineText c) (now (b .exit)) r ⌝ }
 {
     match c {

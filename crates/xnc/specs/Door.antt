@@ -1,11 +1,10 @@
 -- An answer as one number of 64 bits: its number in document 01 times 2^32, and the count or line.
-use mathlib.Core.Bool.{Bool, true, false}
+use mathlib.Core.Bool.{cond}
 use mathlib.Core.List.{List, [], _∷_}
 use Prim.Native.Nat.{ℕ, _+_, _*_, _≤_}
 use lib.Dec.{leb}
 use lib.IntN.{ℤ, pos}
 use lib.ListN.{length}
-use Rattle.lists.specs.Choice.{pick}
 use Rattle.lists.specs.Put.{putAt}
 use Rattle.rules.specs.declared.Hole.{Hole}
 use Rattle.rules.specs.declared.HoleAnswer.{HoleAnswer}
@@ -44,14 +43,14 @@ pub record HoleOk (h : Hole) : Type 0 where
   pub radius-range : h .radius ≤ 2147483647
 
 -- a short block is 15 at line 0, after all other refusals
-unfoldable pub inBlock : HoleAnswer → List ℤ → HoleAnswer
-inBlock (H.Makes h) b = pick (leb holeWidth (length b)) (H.Makes h) (H.Refused noRoom 0)
-inBlock H.Nothing b = pick (leb holeWidth (length b)) H.Nothing (H.Refused noRoom 0)
-inBlock (H.Refused e i) b = H.Refused e i
+unfoldable pub withBlock : HoleAnswer → List ℤ → HoleAnswer
+withBlock (H.Makes h) b = cond (leb holeWidth (length b)) (H.Makes h) (H.Refused noRoom 0)
+withBlock H.Nothing b = cond (leb holeWidth (length b)) H.Nothing (H.Refused noRoom 0)
+withBlock (H.Refused e i) b = H.Refused e i
 
 -- 1 where there is a hole, 0 where there is none
 unfoldable pub holePacked : HoleAnswer → List ℤ → ℕ
-holePacked a b = both (holeNumber (inBlock a b)) (holeValue (inBlock a b))
+holePacked a b = both (holeNumber (withBlock a b)) (holeValue (withBlock a b))
 
 abbrev pub leftOf : HoleAnswer → List ℤ → List ℤ
 leftOf (H.Makes h) b = putAt b 0 (holeNumbers h)
@@ -59,4 +58,4 @@ leftOf H.Nothing b = b
 leftOf (H.Refused e i) b = b
 
 unfoldable pub holeLeaves : HoleAnswer → List ℤ → List ℤ
-holeLeaves a b = leftOf (inBlock a b) b
+holeLeaves a b = leftOf (withBlock a b) b

@@ -8,7 +8,7 @@ ghost use Rattle.rules.specs.Reading.{valueOf, readAnswer, readLeaves};
 ghost use Rattle.rules.specs.Editing.{editAnswer, editLeaves};
 ghost use Rattle.rules.specs.Writing.{writeAnswer, writeLeaves};
 ghost use Rattle.rules.specs.Asking.{holeAnswer};
-ghost use Rattle.xnc.specs.Door.{shift, packed, packedRefusal, HoleOk, holeNumbers, holePacked, holeLeaves};
+ghost use Rattle.xnc.specs.Door.{holeWidth, shift, packed, packedRefusal, HoleOk, holeNumbers, holePacked, holeLeaves};
 use rules::Answer;
 use rules::Hole;
 use rules::HoleAnswer;
@@ -46,6 +46,7 @@ pub extern "C" fn xnc_read(file: &[u8], table: &mut [i32]) -> u64
     pack(reader::read(file, table))
 }
 
+/// See include/xnc.h.
 #[no_mangle]
 pub extern "C" fn xnc_edit(table: &mut [i32], n: usize, line: usize, text: &[u8]) -> u64
     ensures { λ r. ⌜ (r ≡ packed (editAnswer (now (table .entry)) n line (now (text .entry)))) × (now (table .exit) ≡ editLeaves (now (table .entry)) n line (now (text .entry))) ⌝ }
@@ -55,7 +56,7 @@ pub extern "C" fn xnc_edit(table: &mut [i32], n: usize, line: usize, text: &[u8]
 
 // A hole's seven numbers at the front of the block, the rest as it was.
 fn put_hole(block: &mut [i32], h: Hole)
-    requires { ⌜ (7 ≤ length (now block)) × HoleOk h ⌝ }
+    requires { ⌜ (holeWidth ≤ length (now block)) × HoleOk h ⌝ }
     ensures { λ _. ⌜ now (block .exit) ≡ putAt (now (block .entry)) 0 (holeNumbers h) ⌝ }
 {
     let start = h.start;
@@ -76,6 +77,7 @@ fn put_hole(block: &mut [i32], h: Hole)
     block[6] = radius;
 }
 
+/// See include/xnc.h.
 #[no_mangle]
 pub extern "C" fn xnc_hole(table: &[i32], n: usize, line: usize, hole: &mut [i32]) -> u64
     ensures { λ r. ⌜ (r ≡ holePacked (holeAnswer (now (table .entry)) n line) (now (hole .entry))) × (now (hole .exit) ≡ holeLeaves (holeAnswer (now (table .entry)) n line) (now (hole .entry))) ⌝ }
@@ -98,6 +100,7 @@ pub extern "C" fn xnc_hole(table: &[i32], n: usize, line: usize, hole: &mut [i32
     }
 }
 
+/// See include/xnc.h.
 #[no_mangle]
 pub extern "C" fn xnc_write(table: &[i32], n: usize, text: &mut [u8]) -> u64
     ensures { λ r. ⌜ (r ≡ packed (writeAnswer (now (table .entry)) n (now (text .entry)))) × (now (text .exit) ≡ writeLeaves (now (table .entry)) n (now (text .entry))) ⌝ }

@@ -1,17 +1,20 @@
 -- Rows up to i were rerun without agreement: the rest, rerun from the state reached, tells what the whole tells.
-use mathlib.Core.Path.{_≡_, refl}
+use mathlib.Core.Path.{_≡_, refl, sym, _∙_}
 use Prim.Native.Nat.{_-_, _≤_}
 use native.Mathlib.Omega.{arith}
-use borrow.Author.Needs.{needs}
 use lib.ListN.{drop}
+use Rattle.runs.specs.Machine.{rerun}
 use Rattle.rules.specs.Rows.{entriesOf}
-use Rattle.editor.specs.Parts.{rerunFrom, meetingOf}
-use Rattle.editor.proofs.Loops.{told-bad, told-refused, told-met, told-on, told-ended, told-short}
+use Rattle.rules.specs.Editing.{rerunFrom, meetingOf}
+use Rattle.table.proofs.Looks.{entries-cons}
+use Rattle.editor.proofs.Spans.{widen-meeting, no-rows}
+use borrow.Author.Needs.{needs}
 use Rattle.editor.proofs.find_meeting.Statement.{statement}
 use Rattle.editor.proofs.find_meeting.Tie as tie
 
 abbrev Inv-loop : tie.InvT-loop
-Inv-loop table n from state₀ i₀ state i = (i ≤ n) × (meetingOf (rerunFrom state (drop i (entriesOf n table)) i) ≡ meetingOf (rerunFrom state₀ (drop from (entriesOf n table)) from))
+Inv-loop table n from state₀ i₀ state i =
+    (i ≤ n) × (meetingOf (rerunFrom state (drop i (entriesOf n table)) i) ≡ meetingOf (rerunFrom state₀ (drop from (entriesOf n table)) from))
 
 abbrev μ-loop : tie.MeasureT-loop
 μ-loop table n from state₀ i₀ state i = n - i
@@ -19,44 +22,48 @@ abbrev μ-loop : tie.MeasureT-loop
 loop-holds : tie.Need-loop-holds Inv-loop μ-loop
 loop-holds c = (c .pre .1, refl)
 
-look-requires : tie.Need-look-requires Inv-loop μ-loop
-look-requires c κs = search needs
-
-enum-told : tie.Need-enum-told Inv-loop μ-loop
-enum-told c = search needs
-
-add-t15 : tie.Need-add-t15 Inv-loop μ-loop
-add-t15 c = omega arith
+add-t14 : tie.Need-add-t14 Inv-loop μ-loop
+add-t14 c = omega arith
 
 returns : tie.Need-returns Inv-loop μ-loop
-returns c = told-bad (c .before .before .before .before .before .args .table .now) _ (c .before .before .before .before .before .pre .0) (c .before .before .before .before .loop .i) _ _ (c .before .before .before .before .loop .inv .1) (c .before .before .before .loop-test .taken) (c .before .before .look .ensures) (c .enum-told .given .1)
+unfolding rerun
+returns c =
+    let l = c .before .before .before .before in
+    rw (
+      entries-cons _ (l .before .args .table .now) (l .loop .i) (c .before .before .before .loop-test .taken) (l .before .pre .0),
+      sym (c .before .before .look .ensures) ∙ c .enum-told .given .1,
+    ) at (l .loop .inv .1)
 
-enum-known-row : tie.Need-enum-known-row Inv-loop μ-loop
-enum-known-row c = search needs
-
-step-requires : tie.Need-step-requires Inv-loop μ-loop
-step-requires c κs = search needs
-
-enum-known-refusal : tie.Need-enum-known-refusal Inv-loop μ-loop
-enum-known-refusal c = search needs
-
-add-t17 : tie.Need-add-t17 Inv-loop μ-loop
-add-t17 c = omega arith
+add-t16 : tie.Need-add-t16 Inv-loop μ-loop
+add-t16 c = omega arith
 
 returns-2 : tie.Need-returns-2 Inv-loop μ-loop
-returns-2 c = told-refused (c .before .before .before .before .before .before .before .before .before .before .args .table .now) _ (c .before .before .before .before .before .before .before .before .before .before .pre .0) (c .before .before .before .before .before .before .before .before .before .loop .i) _ _ (c .before .before .before .before .before .before .before .before .before .loop .inv .1) (c .before .before .before .before .before .before .before .before .loop-test .taken) (c .before .before .before .before .before .before .before .look .ensures) _ (c .before .before .before .before .before .row .given .1) (c .before .before .before .step .ensures) _ (c .before .refusal .given .1)
+unfolding rerun
+returns-2 c =
+    let l = c .before .before .before .before .before .before .before .before .before in
+    rw (
+      entries-cons _ (l .before .args .table .now) (l .loop .i) (c .before .before .before .before .before .before .before .before .loop-test .taken)
+          (l .before .pre .0),
+      sym (c .before .before .before .before .before .before .before .look .ensures) ∙ c .before .before .before .before .before .command .given .1,
+      sym (c .before .before .before .step .ensures) ∙ c .before .refusal .given .1,
+    )
+    at (l .loop .inv .1)
 
-enum-known-next : tie.Need-enum-known-next Inv-loop μ-loop
-enum-known-next c = search needs
-
-same-requires : tie.Need-same-requires Inv-loop μ-loop
-same-requires c κs = search needs
-
-add-t19 : tie.Need-add-t19 Inv-loop μ-loop
-add-t19 c = omega arith
+add-t18 : tie.Need-add-t18 Inv-loop μ-loop
+add-t18 c = omega arith
 
 returns-3 : tie.Need-returns-3 Inv-loop μ-loop
-returns-3 c = told-met (c .before .before .before .before .before .before .before .before .before .before .before .before .before .args .table .now) _ (c .before .before .before .before .before .before .before .before .before .before .before .before .before .pre .0) (c .before .before .before .before .before .before .before .before .before .before .before .before .loop .i) _ _ (c .before .before .before .before .before .before .before .before .before .before .before .before .loop .inv .1) (c .before .before .before .before .before .before .before .before .before .before .before .loop-test .taken) (c .before .before .before .before .before .before .before .before .before .before .look .ensures) _ (c .before .before .before .before .before .before .before .before .row .given .1) (c .before .before .before .before .before .before .step .ensures) _ (c .before .before .before .before .next .given .1) (c .before .same .ensures) (c .if1 .taken)
+unfolding rerun
+returns-3 c =
+    let l = c .before .before .before .before .before .before .before .before .before .before .before in
+    rw (
+      entries-cons _ (l .before .args .table .now) (l .loop .i)
+          (c .before .before .before .before .before .before .before .before .before .before .loop-test .taken) (l .before .pre .0),
+      sym (c .before .before .before .before .before .before .before .before .before .look .ensures)
+          ∙ c .before .before .before .before .before .before .before .command .given .1,
+      sym (c .before .before .before .before .before .step .ensures) ∙ c .before .before .before .next .given .1,
+      sym (c .before .same .ensures) ∙ c .if1 .taken,
+    ) at (l .loop .inv .1)
 
 add-i : tie.Need-add-i Inv-loop μ-loop
 add-i c = omega arith
@@ -65,19 +72,43 @@ loop-less : tie.Need-loop-less Inv-loop μ-loop
 loop-less c = omega arith
 
 loop-again : tie.Need-loop-again Inv-loop μ-loop
-loop-again c = (omega arith, told-on (c .before .before .before .before .before .before .before .before .before .before .before .before .before .args .table .now) _ (c .before .before .before .before .before .before .before .before .before .before .before .before .before .pre .0) (c .before .before .before .before .before .before .before .before .before .before .before .before .loop .i) _ _ (c .before .before .before .before .before .before .before .before .before .before .before .before .loop .inv .1) (c .before .before .before .before .before .before .before .before .before .before .before .loop-test .taken) (c .before .before .before .before .before .before .before .before .before .before .look .ensures) _ (c .before .before .before .before .before .before .before .before .row .given .1) (c .before .before .before .before .before .before .step .ensures) _ (c .before .before .before .before .next .given .1) (c .before .same .ensures) (c .if1 .left))
-
-has-ended-requires : tie.Need-has-ended-requires Inv-loop μ-loop
-has-ended-requires c κs = search needs
+unfolding rerun
+loop-again c = (
+  omega arith,
+  let l = c .before .before .before .before .before .before .before .before .before .before .before in
+      rw (
+        entries-cons _ (l .before .args .table .now) (l .loop .i)
+            (c .before .before .before .before .before .before .before .before .before .before .loop-test .taken) (l .before .pre .0),
+        sym (c .before .before .before .before .before .before .before .before .before .look .ensures)
+            ∙ c .before .before .before .before .before .before .before .command .given .1,
+        sym (c .before .before .before .before .before .step .ensures) ∙ c .before .before .before .next .given .1,
+        sym (c .before .same .ensures) ∙ c .if1 .left,
+        widen-meeting,
+      ) at (l .loop .inv .1),
+)
 
 returns-4 : tie.Need-returns-4 Inv-loop μ-loop
-returns-4 c = told-ended (c .before .before .before .before .args .table .now) _ (c .before .before .before .before .pre .0) (c .before .before .before .loop .i) _ _ (c .before .before .before .loop .inv .1) (c .before .before .before .loop .inv .0) (c .before .before .loop-test .left) (c .before .has-ended .ensures) (c .if2 .taken)
+unfolding rerun
+returns-4 c =
+    let l = c .before .before .before in let e : l .loop .i ≡ l .before .args .n = omega arith in
+    rw (
+      no-rows (l .before .args .table .now) (l .before .args .n) (l .loop .i) (c .before .before .loop-test .left),
+      sym (c .before .has-ended .ensures) ∙ c .if2 .taken,
+      e,
+    ) at (l .loop .inv .1)
 
-add-t22 : tie.Need-add-t22 Inv-loop μ-loop
-add-t22 c = omega arith
+add-t21 : tie.Need-add-t21 Inv-loop μ-loop
+add-t21 c = omega arith
 
 returns-5 : tie.Need-returns-5 Inv-loop μ-loop
-returns-5 c = told-short (c .before .before .before .before .args .table .now) _ (c .before .before .before .before .pre .0) (c .before .before .before .loop .i) _ _ (c .before .before .before .loop .inv .1) (c .before .before .before .loop .inv .0) (c .before .before .loop-test .left) (c .before .has-ended .ensures) (c .if2 .left)
+unfolding rerun
+returns-5 c =
+    let l = c .before .before .before in let e : l .loop .i ≡ l .before .args .n = omega arith in
+    rw (
+      no-rows (l .before .args .table .now) (l .before .args .n) (l .loop .i) (c .before .before .loop-test .left),
+      sym (c .before .has-ended .ensures) ∙ c .if2 .left,
+      e,
+    ) at (l .loop .inv .1)
 
 pub find-meeting-spec : {M : Type 1} → statement M
 find-meeting-spec =
@@ -86,23 +117,23 @@ find-meeting-spec =
     Inv-loop
     μ-loop
     loop-holds
-    look-requires
-    enum-told
-    add-t15
+    (λ c κs. search needs)
+    (λ c. search needs)
+    add-t14
     returns
-    enum-known-row
-    step-requires
-    enum-known-refusal
-    add-t17
+    (λ c. search needs)
+    (λ c κs. search needs)
+    (λ c. search needs)
+    add-t16
     returns-2
-    enum-known-next
-    same-requires
-    add-t19
+    (λ c. search needs)
+    (λ c κs. search needs)
+    add-t18
     returns-3
     add-i
     loop-less
     loop-again
-    has-ended-requires
+    (λ c κs. search needs)
     returns-4
-    add-t22
+    add-t21
     returns-5)

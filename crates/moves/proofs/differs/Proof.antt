@@ -4,18 +4,6 @@ use Rattle.moves.proofs.Holes.{differ-both, differ-goes, differ-comes, 
 use Rattle.moves.proofs.differs.Statement.{statement}
 use Rattle.moves.proofs.differs.Tie as tie
 
-enum-known-old : tie.Need-enum-known-old
-enum-known-old c = search needs
-
-enum-known-new : tie.Need-enum-known-new
-enum-known-new c = search needs
-
-same-hole-requires : tie.Need-same-hole-requires
-same-hole-requires c κs = search needs
-
-enum-told : tie.Need-enum-told
-enum-told c = search needs
-
 returns : tie.Need-returns
 returns c = differ-both _ _ _ _ _ (c .before .before .before .before .before .old .given .1) (c .before .before .new .given .1) (c .same-hole .ensures)
 
@@ -32,10 +20,10 @@ pub differs-spec : {M : Type 1} → statement M
 differs-spec =
     tie.close
     (tie.spec
-    enum-known-old
-    enum-known-new
-    same-hole-requires
-    enum-told
+    (λ c. search needs)
+    (λ c. search needs)
+    (λ c κs. search needs)
+    (λ c. search needs)
     returns
     returns-2
     returns-3

@@ -19,14 +19,13 @@ returns-3 : tie.Need-returns-3
 unfolding sameHole
 returns-3 c = search (eq-eqb, ne-eqb)
 
-same-requires : tie.Need-same-requires
-same-requires c κs = search needs
-
-same-requires-2 : tie.Need-same-requires-2
-same-requires-2 c κs = search needs
-
 returns-4 : tie.Need-returns-4
-returns-4 c = c .same2 .ensures ∙ same-by-ends _ _ (c .before .before .before .before .before .before .before .before .before .before .before .before .before .if1 .left) (c .before .before .before .before .before .before .before .before .before .before .if2 .left) (c .before .before .before .before .before .before .before .if3 .left) (sym (c .before .before .before .before .same .ensures) ∙ c .before .before .before .if4 .taken)
+returns-4 c =
+    c .same2 .ensures ∙ same-by-ends _ _
+    (c .before .before .before .before .before .before .before .before .before .before .before .before .before .if1 .left)
+    (c .before .before .before .before .before .before .before .before .before .before .if2 .left)
+    (c .before .before .before .before .before .before .before .if3 .left)
+    (sym (c .before .before .before .before .same .ensures) ∙ c .before .before .before .if4 .taken)
 
 returns-5 : tie.Need-returns-5
 unfolding sameHole
@@ -35,4 +34,4 @@ returns-5 c = search (eq-eqb, ← c .before .same .ensures, c .if4 .left)
 pub same-hole-spec : {M : Type 1} → statement M
 same-hole-spec =
     tie.close
-    (tie.spec returns returns-2 returns-3 same-requires same-requires-2 returns-4 returns-5)
+    (tie.spec returns returns-2 returns-3 (λ c κs. search needs) (λ c κs. search needs) returns-4 returns-5)

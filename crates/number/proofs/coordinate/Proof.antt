@@ -8,28 +8,23 @@ use Rattle.number.proofs.coordinate.Tie as tie
 returns : tie.Need-returns
 returns c = coordinate-places (decimalOf (c .before .args .w)) (c .if1 .taken)
 
-millionths-requires : tie.Need-millionths-requires
-millionths-requires c κs = search needs
-
 returns-2 : tie.Need-returns-2
 returns-2 c = coordinate-large (decimalOf (c .before .before .before .args .w)) (c .before .before .if1 .left) _ (c .before .millionths .ensures) (c .if2 .taken)
-
-cast-t5 : tie.Need-cast-t5
-cast-t5 c = search needs
 
 sub-t6 : tie.Need-sub-t6
 sub-t6 c = minus-fits _ (c .before .if2 .left)
 
 returns-3 : tie.Need-returns-3
-returns-3 c = coordinate-minus (decimalOf (c .before .before .before .before .args .w)) (c .before .before .before .if1 .left) _ (c .before .before .millionths .ensures) (c .before .if2 .left) (c .if3 .taken)
-
-cast-t7 : tie.Need-cast-t7
-cast-t7 c = search needs
+returns-3 c =
+    let b = c .before .before in
+    coordinate-minus (decimalOf (b .before .before .args .w)) (b .before .if1 .left) _ (b .millionths .ensures) (c .before .if2 .left) (c .if3 .taken)
 
 returns-4 : tie.Need-returns-4
-returns-4 c = coordinate-plus (decimalOf (c .before .before .before .before .args .w)) (c .before .before .before .if1 .left) _ (c .before .before .millionths .ensures) (c .before .if2 .left) (c .if3 .left)
+returns-4 c =
+    let b = c .before .before in
+    coordinate-plus (decimalOf (b .before .before .args .w)) (b .before .if1 .left) _ (b .millionths .ensures) (c .before .if2 .left) (c .if3 .left)
 
 pub coordinate-spec : {M : Type 1} → statement M
 coordinate-spec =
     tie.close
-    (tie.spec returns millionths-requires returns-2 cast-t5 sub-t6 returns-3 cast-t7 returns-4)
+    (tie.spec returns (λ c κs. search needs) returns-2 (λ c. search needs) sub-t6 returns-3 (λ c. search needs) returns-4)

@@ -1,55 +1,50 @@
 -- A sign, and then the number from the place after it.
-use mathlib.Core.Path.{sym, ap, _∙_}
+use Prim.Native.Char.{code}
 use native.Mathlib.Omega.{arith}
-use lib.ListN.{length}
-use Rattle.number.specs.Capped.{numberAt}
 use Rattle.number.proofs.Runs.{stands-within}
 use Rattle.number.proofs.Readings.{signed-minus, signed-plus, signed-bare}
 use borrow.Author.Needs.{needs}
 use Rattle.number.proofs.signed.Statement.{statement}
 use Rattle.number.proofs.signed.Tie as tie
 
-stands-requires : tie.Need-stands-requires
-stands-requires c κs = search needs
-
 add-magnitude : tie.Need-add-magnitude
-add-magnitude c = omega (arith, stands-within (c .before .before .before .args .s .now) (c .before .before .before .args .at) 45 (sym (c .before .stands .ensures) ∙ c .if1 .taken))
-
-magnitude-requires : tie.Need-magnitude-requires
-magnitude-requires c κs = search needs
+add-magnitude c =
+    let a = c .before .before .before .args in
+    omega (arith, stands-within (a .s .now) (a .at) (code "-") (c .before .stands .ensures) (c .if1 .taken))
 
 returns : tie.Need-returns
-returns c = c .magnitude .ensures ∙ ap (numberAt (length (c .before .before .before .before .args .s .now))) (sym (signed-minus (c .before .before .before .before .args .s .now) (c .before .before .before .before .args .at) (sym (c .before .before .stands .ensures) ∙ c .before .if1 .taken)))
-
-stands-requires-2 : tie.Need-stands-requires-2
-stands-requires-2 c κs = search needs
+returns c =
+    let a = c .before .before .before .before .args in
+    signed-minus (a .s .now) (a .at) (c .before .before .stands .ensures) (c .before .if1 .taken) (c .magnitude .ensures)
 
 add-magnitude-2 : tie.Need-add-magnitude-2
-add-magnitude-2 c = omega (arith, stands-within (c .before .before .before .before .before .args .s .now) (c .before .before .before .before .before .args .at) 43 (sym (c .before .stands2 .ensures) ∙ c .if2 .taken))
-
-magnitude-requires-2 : tie.Need-magnitude-requires-2
-magnitude-requires-2 c κs = search needs
+add-magnitude-2 c =
+    let a = c .before .before .before .before .before .args in
+    omega (arith, stands-within (a .s .now) (a .at) (code "+") (c .before .stands2 .ensures) (c .if2 .taken))
 
 returns-2 : tie.Need-returns-2
-returns-2 c = c .magnitude2 .ensures ∙ ap (numberAt (length (c .before .before .before .before .before .before .args .s .now))) (sym (signed-plus (c .before .before .before .before .before .before .args .s .now) (c .before .before .before .before .before .before .args .at) (sym (c .before .before .before .before .stands .ensures) ∙ c .before .before .before .if1 .left) (sym (c .before .before .stands2 .ensures) ∙ c .before .if2 .taken)))
-
-unsigned-requires : tie.Need-unsigned-requires
-unsigned-requires c κs = search needs
+returns-2 c =
+    let b = c .before .before .before in
+    let a = b .before .before .before .args in
+    signed-plus (a .s .now) (a .at) (b .before .stands .ensures) (b .if1 .left) (c .before .before .stands2 .ensures) (c .before .if2 .taken) (c .magnitude2 .ensures)
 
 returns-3 : tie.Need-returns-3
-returns-3 c = c .unsigned .ensures ∙ ap (numberAt (length (c .before .before .before .before .before .before .args .s .now))) (sym (signed-bare (c .before .before .before .before .before .before .args .s .now) (c .before .before .before .before .before .before .args .at) (sym (c .before .before .before .before .stands .ensures) ∙ c .before .before .before .if1 .left) (sym (c .before .before .stands2 .ensures) ∙ c .before .if2 .left)))
+returns-3 c =
+    let b = c .before .before .before in
+    let a = b .before .before .before .args in
+    signed-bare (a .s .now) (a .at) (b .before .stands .ensures) (b .if1 .left) (c .before .before .stands2 .ensures) (c .before .if2 .left) (c .unsigned .ensures)
 
 pub signed-spec : {M : Type 1} → statement M
 signed-spec =
     tie.close
     (tie.spec
-    stands-requires
+    (λ c κs. search needs)
     add-magnitude
-    magnitude-requires
+    (λ c κs. search needs)
     returns
-    stands-requires-2
+    (λ c κs. search needs)
     add-magnitude-2
-    magnitude-requires-2
+    (λ c κs. search needs)
     returns-2
-    unsigned-requires
+    (λ c κs. search needs)
     returns-3)

@@ -4,12 +4,9 @@ use borrow.Author.Needs.{needs}
 use Rattle.number.proofs.unsigned.Statement.{statement}
 use Rattle.number.proofs.unsigned.Tie as tie
 
-magnitude-requires : tie.Need-magnitude-requires
-magnitude-requires c κs = search needs
-
 returns : tie.Need-returns
 unfolding unsignedOf
 returns c = c .magnitude .ensures
 
 pub unsigned-spec : {M : Type 1} → statement M
-unsigned-spec = tie.close (tie.spec magnitude-requires returns)
+unsigned-spec = tie.close (tie.spec (λ c κs. search needs) returns)

@@ -1,7 +1,7 @@
 -- The size, the lines, the room; the table is written last, from the block.
 use native.Mathlib.Omega.{arith}
 use lib.ListN.{length-take}
-use Rattle.reader.proofs.Turns.{read-long, read-refused, read-no-room, read-done, lines-refused, lines-done}
+use Rattle.reader.proofs.Whole.{read-long, read-refused, read-count, read-no-room, read-done}
 use borrow.Author.Needs.{needs}
 use Rattle.reader.proofs.read.Statement.{statement}
 use Rattle.reader.proofs.read.Tie as tie
@@ -9,56 +9,44 @@ use Rattle.reader.proofs.read.Tie as tie
 returns : tie.Need-returns
 returns c = read-long _ _ (c .if1 .taken)
 
-slice-aggregate-read-lines : tie.Need-slice-aggregate-read-lines
-slice-aggregate-read-lines c = search needs
-
-read-lines-requires : tie.Need-read-lines-requires
-read-lines-requires c κs = search needs
-
-enum-known-refusal : tie.Need-enum-known-refusal
-enum-known-refusal c = search needs
-
 returns-2 : tie.Need-returns-2
-returns-2 c = read-refused _ _ (c .before .before .before .before .before .before .if1 .left) _ _ (lines-refused _ _ _ (c .before .before .before .before .read-lines .ensures) _ _ (c .before .refusal .given .1))
-
-enum-known-n : tie.Need-enum-known-n
-enum-known-n c = search needs
+returns-2 c = let b = c .before .before .before .before in read-refused _ _ (b .before .before .if1 .left) (b .read-lines .ensures) (c .before .refusal .given .1)
 
 returns-3 : tie.Need-returns-3
-returns-3 c = read-no-room _ (c .before .before .before .before .before .before .before .before .before .args .table .now) (c .before .before .before .before .before .before .before .if1 .left) _ (lines-done _ _ _ (c .before .before .before .before .before .read-lines .ensures) _ (c .before .before .n .given .1) .0) (c .if2 .taken)
-
-mul-block : tie.Need-mul-block
-mul-block c = search needs
+returns-3 c =
+    let b = c .before .before .before .before .before in
+    read-no-room _ (b .before .before .before .before .args .table .now) (b .before .before .if1 .left) (b .read-lines .ensures) _ (c .before .before .n .given .1)
+    (c .if2 .taken)
 
 array-share-prefix-block : tie.Need-array-share-prefix-block
-array-share-prefix-block c = omega (arith, lines-done _ _ _ (c .before .before .before .before .before .before .read-lines .ensures) _ (c .before .before .before .n .given .1) .1)
+array-share-prefix-block c =
+    let h = read-count (c .before .before .before .before .before .before .read-lines .ensures) (c .before .before .before .n .given .1) in omega arith
 
-slice-aggregate-copy-rows : tie.Need-slice-aggregate-copy-rows
-slice-aggregate-copy-rows c = simp length-take (omega (arith, lines-done _ _ _ (c .before .before .before .before .before .before .before .read-lines .ensures) _ (c .before .before .before .before .n .given .1) .1))
-
-copy-rows-requires : tie.Need-copy-rows-requires
-copy-rows-requires c κs = simp length-take (omega (arith, lines-done _ _ _ (c .before .before .before .before .before .before .before .read-lines .ensures) _ (c .before .before .before .before .n .given .1) .1))
-
-same-length : tie.Need-same-length
-same-length c = search needs
+slice-aggregate-copy : tie.Need-slice-aggregate-copy
+slice-aggregate-copy c =
+    let h = read-count (c .before .before .before .before .before .before .before .read-lines .ensures) (c .before .before .before .before .n .given .1) in
+    simp length-take (omega arith)
 
 returns-4 : tie.Need-returns-4
-returns-4 c = read-done _ (c .before .before .before .before .before .before .before .before .before .before .before .before .before .args .table .now) (c .before .before .before .before .before .before .before .before .before .before .before .if1 .left) _ (lines-done _ _ _ (c .before .before .before .before .before .before .before .before .before .read-lines .ensures) _ (c .before .before .before .before .before .before .n .given .1) .0) (c .before .before .before .before .if2 .left) _ _ _ (lines-done _ _ _ (c .before .before .before .before .before .before .before .before .before .read-lines .ensures) _ (c .before .before .before .before .before .before .n .given .1) .2) (c .before .copy-rows .ensures)
+returns-4 c =
+    let b = c .before .before .before .before .before .before .before .before .before in
+    read-done _ (b .before .before .before .before .args .table .now) (b .before .before .if1 .left) (b .read-lines .ensures) _
+    (c .before .before .before .before .before .before .n .given .1) (c .before .before .before .before .if2 .left) (c .before .copy .ensures)
 
 pub read-spec : {M : Type 1} → statement M
 read-spec =
     tie.close
     (tie.spec
     returns
-    slice-aggregate-read-lines
-    read-lines-requires
-    enum-known-refusal
+    (λ c. search needs)
+    (λ c κs. search needs)
+    (λ c. search needs)
     returns-2
-    enum-known-n
+    (λ c. search needs)
     returns-3
-    mul-block
+    (λ c. search needs)
     array-share-prefix-block
-    slice-aggregate-copy-rows
-    copy-rows-requires
-    same-length
+    slice-aggregate-copy
+    (λ c κs. search needs)
+    (λ c. search needs)
     returns-4)

@@ -7,7 +7,7 @@ use borrow.Author.Needs.{needs}
 use lib.ListN.{length, drop}
 use Rattle.lists.specs.Put.{putAt}
 use Rattle.lists.proofs.Put.{copy-end}
-use Rattle.table.proofs.ReadBack.{copied-one}
+use Rattle.table.proofs.Puts.{copied-one}
 use Rattle.table.proofs.copy_in.Statement.{statement}
 use Rattle.table.proofs.copy_in.Tie as tie
 
@@ -19,12 +19,6 @@ abbrev μ-loop : tie.MeasureT-loop
 
 loop-holds : tie.Need-loop-holds Inv-loop μ-loop
 loop-holds c = (omega arith, refl, rw (add-zero (c .args .at)))
-
-mul-v : tie.Need-mul-v Inv-loop μ-loop
-mul-v c = search needs
-
-shared-slice-copy-out-v : tie.Need-shared-slice-copy-out-v Inv-loop μ-loop
-shared-slice-copy-out-v c = search needs
 
 add-v : tie.Need-add-v Inv-loop μ-loop
 add-v c = omega arith
@@ -45,13 +39,15 @@ loop-again : tie.Need-loop-again Inv-loop μ-loop
 loop-again c =
     let l = c .before .before .loop in
     let s = c .before .before .before in
-    copied-one (s .args .t .now) (l .t) (s .args .a .now) (s .args .at) (l .j) (s .pre) (c .before .loop-test .taken) (c .v .given) (l .inv .1) (l .inv .2)
+    copied-one (s .args .table .now) (l .table) (s .args .a .now) (s .args .at) (l .j) (s .pre) (c .before .loop-test .taken) (c .v .given) (l .inv .1) (l .inv .2)
 
 same-length : tie.Need-same-length Inv-loop μ-loop
 same-length c = c .before .loop .inv .1
 
 returns : tie.Need-returns Inv-loop μ-loop
-returns c = copy-end (c .before .loop .t) _ (c .before .before .args .a .now) (c .before .before .args .at + c .before .loop .j) (c .before .loop .j) (c .loop-test .left) (c .before .loop .inv .2)
+returns c =
+    copy-end (c .before .loop .table) _ (c .before .before .args .a .now) (c .before .before .args .at + c .before .loop .j) (c .before .loop .j)
+    (c .loop-test .left) (c .before .loop .inv .2)
 
 pub copy-in-spec : {M : Type 1} → statement M
 copy-in-spec =
@@ -60,8 +56,8 @@ copy-in-spec =
     Inv-loop
     μ-loop
     loop-holds
-    mul-v
-    shared-slice-copy-out-v
+    (λ c. search needs)
+    (λ c. search needs)
     add-v
     mul-v-2
     slice-set-from-v

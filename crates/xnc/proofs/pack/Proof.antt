@@ -7,12 +7,6 @@ use borrow.Author.Needs.{needs}
 use Rattle.xnc.proofs.pack.Statement.{statement}
 use Rattle.xnc.proofs.pack.Tie as tie
 
-enum-known-answer : tie.Need-enum-known-answer
-enum-known-answer c = search needs
-
-enum-known-answer-2 : tie.Need-enum-known-answer-2
-enum-known-answer-2 c = search needs
-
 pack-refusal-requires : tie.Need-pack-refusal-requires
 pack-refusal-requires c κs = line-small _ _ (c .before .answer2 .given .1) (c .before .before .before .pre)
 
@@ -27,4 +21,4 @@ returns-2 c = rw (c .before .before .answer2 .given .1) (c .pack-refusal .ensure
 pub pack-spec : {M : Type 1} → statement M
 pack-spec =
     tie.close
-    (tie.spec enum-known-answer enum-known-answer-2 pack-refusal-requires returns returns-2)
+    (tie.spec (λ c. search needs) (λ c. search needs) pack-refusal-requires returns returns-2)

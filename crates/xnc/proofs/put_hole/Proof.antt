@@ -6,18 +6,6 @@ use borrow.Author.Needs.{needs}
 use Rattle.xnc.proofs.put_hole.Statement.{statement}
 use Rattle.xnc.proofs.put_hole.Tie as tie
 
-cast-kind : tie.Need-cast-kind
-cast-kind c = search needs
-
-cast-tool : tie.Need-cast-tool
-cast-tool c = search needs
-
-cast-radius : tie.Need-cast-radius
-cast-radius c = search needs
-
-slice-set-from-kind : tie.Need-slice-set-from-kind
-slice-set-from-kind c = search needs
-
 slice-set-from-tool : tie.Need-slice-set-from-tool
 slice-set-from-tool c = simp length-set (omega arith)
 
@@ -40,16 +28,19 @@ same-length : tie.Need-same-length
 same-length c = simp length-set
 
 returns : tie.Need-returns
-returns c = put-seven _ (c .before .before .before .before .before .before .before .before .before .pre .0) (c .before .before .before .before .before .before .before .before .before .args .h) (c .before .before .before .before .before .before .before .before .before .pre .1) (search needs) (search needs) (search needs) (search needs)
+returns c =
+    put-seven _ (c .before .before .before .before .before .before .before .before .before .pre .0)
+    (c .before .before .before .before .before .before .before .before .before .args .h)
+    (c .before .before .before .before .before .before .before .before .before .pre .1) (search needs) (search needs) (search needs) (search needs)
 
 pub put-hole-spec : {M : Type 1} → statement M
 put-hole-spec =
     tie.close
     (tie.spec
-    cast-kind
-    cast-tool
-    cast-radius
-    slice-set-from-kind
+    (λ c. search needs)
+    (λ c. search needs)
+    (λ c. search needs)
+    (λ c. search needs)
     slice-set-from-tool
     slice-set-from-start-x
     slice-set-from-start-y

@@ -6,17 +6,11 @@ use borrow.Author.Needs.{needs}
 use Rattle.xnc.proofs.xnc_edit.Statement.{statement}
 use Rattle.xnc.proofs.xnc_edit.Tie as tie
 
-edit-requires : tie.Need-edit-requires
-edit-requires c κs = search needs
-
 pack-requires : tie.Need-pack-requires
 pack-requires c κs = edit-small _ _ _ _ _ (c .before .edit .ensures .answer)
-
-same-length : tie.Need-same-length
-same-length c = search needs
 
 returns : tie.Need-returns
 returns c = (c .pack .ensures ∙ ap packed (c .before .before .edit .ensures .answer), c .before .before .edit .ensures .leaves)
 
 pub xnc-edit-spec : {M : Type 1} → statement M
-xnc-edit-spec = tie.close (tie.spec edit-requires pack-requires same-length returns)
+xnc-edit-spec = tie.close (tie.spec (λ c κs. search needs) pack-requires (λ c. search needs) returns)

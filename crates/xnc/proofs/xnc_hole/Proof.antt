@@ -5,63 +5,51 @@ use borrow.Author.Needs.{needs}
 use Rattle.xnc.proofs.xnc_hole.Statement.{statement}
 use Rattle.xnc.proofs.xnc_hole.Tie as tie
 
-hole-requires : tie.Need-hole-requires
-hole-requires c κs = search needs
-
-enum-known-refusal : tie.Need-enum-known-refusal
-enum-known-refusal c = search needs
-
 pack-refusal-requires : tie.Need-pack-refusal-requires
 pack-refusal-requires c κs = hole-small _ _ _ (c .before .before .before .hole .ensures) _ _ (c .before .refusal .given .1)
 
-enum-told : tie.Need-enum-told
-enum-told c = search needs
-
-pack-refusal-requires-2 : tie.Need-pack-refusal-requires-2
-pack-refusal-requires-2 c κs = search needs
-
 returns : tie.Need-returns
-returns c = door-none-short (c .before .before .before .before .hole .ensures) (c .before .before .before .before .before .args .hole .now) (c .before .before .enum-told .given .1) (c .before .if1 .taken) (c .pack-refusal2 .ensures)
-
-enum-known-made : tie.Need-enum-known-made
-enum-known-made c = search needs
-
-pack-refusal-requires-3 : tie.Need-pack-refusal-requires-3
-pack-refusal-requires-3 c κs = search needs
+returns c =
+    door-none-short (c .before .before .before .before .hole .ensures) (c .before .before .before .before .before .args .hole .now)
+    (c .before .before .enum-told .given .1) (c .before .if1 .taken) (c .pack-refusal2 .ensures)
 
 returns-2 : tie.Need-returns-2
-returns-2 c = door-short (c .before .before .before .before .before .hole .ensures) (c .before .before .before .before .before .before .args .hole .now) _ (c .before .before .before .made .given .1) (c .before .if2 .taken) (c .pack-refusal3 .ensures)
+returns-2 c =
+    door-short (c .before .before .before .before .before .hole .ensures) (c .before .before .before .before .before .before .args .hole .now) _
+    (c .before .before .before .made .given .1) (c .before .if2 .taken) (c .pack-refusal3 .ensures)
 
 put-hole-requires : tie.Need-put-hole-requires
 put-hole-requires c κs = (c .before .if2 .left, made-ok _ _ _ _ (c .before .before .before .before .before .hole .ensures) (c .before .before .before .made .given .1))
 
 returns-3 : tie.Need-returns-3
-returns-3 c = door-refused (c .before .before .before .before .hole .ensures) (c .before .before .before .before .before .args .hole .now) _ _ (c .before .before .refusal .given .1) (c .pack-refusal .ensures)
+returns-3 c =
+    door-refused (c .before .before .before .before .hole .ensures) (c .before .before .before .before .before .args .hole .now) _ _
+    (c .before .before .refusal .given .1) (c .pack-refusal .ensures)
 
 returns-4 : tie.Need-returns-4
 returns-4 c = door-none (c .before .before .before .hole .ensures) (c .before .before .before .before .args .hole .now) (c .before .enum-told .given .1) (c .if1 .left)
 
-same-length : tie.Need-same-length
-same-length c = search needs
-
 returns-5 : tie.Need-returns-5
-returns-5 c = door-makes (c .before .before .before .before .before .before .before .hole .ensures) (c .before .before .before .before .before .before .before .before .args .hole .now) _ (c .before .before .before .before .before .made .given .1) (c .before .before .before .if2 .left) _ (c .before .put-hole .ensures)
+returns-5 c =
+    door-makes (c .before .before .before .before .before .before .before .hole .ensures)
+    (c .before .before .before .before .before .before .before .before .args .hole .now) _ (c .before .before .before .before .before .made .given .1)
+    (c .before .before .before .if2 .left) _ (c .before .put-hole .ensures)
 
 pub xnc-hole-spec : {M : Type 1} → statement M
 xnc-hole-spec =
     tie.close
     (tie.spec
-    hole-requires
-    enum-known-refusal
+    (λ c κs. search needs)
+    (λ c. search needs)
     pack-refusal-requires
-    enum-told
-    pack-refusal-requires-2
+    (λ c. search needs)
+    (λ c κs. search needs)
     returns
-    enum-known-made
-    pack-refusal-requires-3
+    (λ c. search needs)
+    (λ c κs. search needs)
     returns-2
     put-hole-requires
     returns-3
     returns-4
-    same-length
+    (λ c. search needs)
     returns-5)

@@ -6,17 +6,11 @@ use borrow.Author.Needs.{needs}
 use Rattle.xnc.proofs.xnc_read.Statement.{statement}
 use Rattle.xnc.proofs.xnc_read.Tie as tie
 
-read-requires : tie.Need-read-requires
-read-requires c κs = search needs
-
 pack-requires : tie.Need-pack-requires
 pack-requires c κs = read-small _ _ _ (c .before .read .ensures .0)
-
-same-length : tie.Need-same-length
-same-length c = search needs
 
 returns : tie.Need-returns
 returns c = (c .pack .ensures ∙ ap packed (c .before .before .read .ensures .0), c .before .before .read .ensures .1)
 
 pub xnc-read-spec : {M : Type 1} → statement M
-xnc-read-spec = tie.close (tie.spec read-requires pack-requires same-length returns)
+xnc-read-spec = tie.close (tie.spec (λ c κs. search needs) pack-requires (λ c. search needs) returns)

@@ -6,17 +6,11 @@ use borrow.Author.Needs.{needs}
 use Rattle.xnc.proofs.xnc_write.Statement.{statement}
 use Rattle.xnc.proofs.xnc_write.Tie as tie
 
-write-requires : tie.Need-write-requires
-write-requires c κs = search needs
-
 pack-requires : tie.Need-pack-requires
 pack-requires c κs = write-small _ _ _ _ (c .before .before .write .ensures .0)
-
-same-length : tie.Need-same-length
-same-length c = search needs
 
 returns : tie.Need-returns
 returns c = (c .pack .ensures ∙ ap packed (c .before .before .before .write .ensures .0), c .before .before .before .write .ensures .1)
 
 pub xnc-write-spec : {M : Type 1} → statement M
-xnc-write-spec = tie.close (tie.spec write-requires pack-requires same-length returns)
+xnc-write-spec = tie.close (tie.spec (λ c κs. search needs) pack-requires (λ c. search needs) returns)

@@ -1,36 +1,29 @@
--- The invariant: the fields that are left, written on what is there, are the whole. The measure: how many are left.
-use mathlib.Core.Path.{_≡_, refl, _∙_}
-use Prim.Native.Nat.{_+_, _-_, _≤_}
+-- The invariant: whoever writes the fields that are left has written all. The measure: how many are left.
+use Prim.Native.Nat.{_-_}
 use native.Mathlib.Omega.{arith}
+use borrow.Author.Needs.{needs}
 use lib.ListN.{length}
-use Rattle.lists.specs.Put.{putAt}
+use Rattle.text.proofs.Wrote.{Rest, rest-turn, rest-length, rest-end}
 use Rattle.print.specs.Fields.{tabbed}
 use Rattle.print.specs.Line.{decimals}
-use Rattle.print.proofs.Turns.{textFrom, next-fits, numbers-turn, numbers-end}
+use Rattle.print.proofs.Turns.{textFrom, text-next, text-end}
 use Rattle.print.proofs.fields.put_numbers.Statement.{statement}
 use Rattle.print.proofs.fields.put_numbers.Tie as tie
 
 abbrev Inv-loop : tie.InvT-loop
-Inv-loop b₀ at numbers end₀ i₀ b end i =
-    (i ≤ length numbers) × (length b ≡ length b₀) × (end + length (textFrom numbers i) ≡ at + length (tabbed (decimals numbers)))
-    × (putAt b end (textFrom numbers i) ≡ putAt b₀ at (tabbed (decimals numbers)))
+Inv-loop b₀ at numbers end₀ i₀ b end i = Rest b₀ at (tabbed (decimals numbers)) b end (textFrom numbers i)
 
 abbrev μ-loop : tie.MeasureT-loop
 μ-loop b₀ at numbers end₀ i₀ b end i = length numbers - i
 
 loop-holds : tie.Need-loop-holds Inv-loop μ-loop
-loop-holds c = (omega arith, refl, refl, refl)
+loop-holds c = λ _ _ w. w
 
 mul-put-number : tie.Need-mul-put-number Inv-loop μ-loop
 mul-put-number c = omega arith
 
 shared-slice-read-put-number : tie.Need-shared-slice-read-put-number Inv-loop μ-loop
 shared-slice-read-put-number c = omega arith
-
-put-number-requires : tie.Need-put-number-requires Inv-loop μ-loop
-put-number-requires c κs =
-    let l = c .before .before .before .loop in
-    next-fits (c .before .before .before .before .before .before .args .numbers .now) (l .i) (c .before .before .loop-test .taken) (l .end) _ (omega arith)
 
 add-i : tie.Need-add-i Inv-loop μ-loop
 add-i c = omega arith
@@ -40,19 +33,16 @@ loop-less c = omega arith
 
 loop-again : tie.Need-loop-again Inv-loop μ-loop
 loop-again c =
-    let s = c .before .before .before .before .before .before .before .before .before in
-    let l = c .before .before .before .before .before .before .loop in
-    let t = numbers-turn (s .args .numbers .now) (l .i) (c .before .before .before .before .before .loop-test .taken) (l .b) _ _ (l .end) _ _ (c .before .before .put-number .ensures) (omega arith) (l .inv .2) (l .inv .3) in
-    (omega arith, t .0 ∙ l .inv .1, t .1, t .2)
+    let t = c .before .before .before .before .before in
+    let ns = t .before .before .before .before .args .numbers .now in
+    rest-turn _ (t .before .loop .inv) _ (text-next ns (t .before .loop .i) (t .loop-test .taken)) (c .before .before .put-number .ensures)
 
 same-length : tie.Need-same-length Inv-loop μ-loop
-same-length c = c .before .loop .inv .1
+same-length c = rest-length _ (c .before .loop .inv)
 
 returns : tie.Need-returns Inv-loop μ-loop
 returns c =
-    let s = c .before .before .before .before in
-    let l = c .before .loop in
-    numbers-end (s .args .numbers .now) (l .i) (c .loop-test .left) (l .b) (s .args .b .now) (l .end) (s .args .at) (l .inv .2) (l .inv .3)
+    rest-end _ (c .before .loop .inv) (text-end (c .before .before .before .before .args .numbers .now) (c .before .loop .i) (c .loop-test .left))
 
 pub put-numbers-spec : {M : Type 1} → statement M
 put-numbers-spec =
@@ -63,7 +53,7 @@ put-numbers-spec =
     loop-holds
     mul-put-number
     shared-slice-read-put-number
-    put-number-requires
+    (λ c κs. search needs)
     add-i
     loop-less
     loop-again

@@ -4,28 +4,11 @@ use borrow.Author.Needs.{needs}
 use Rattle.report.proofs.parts.put_line.Statement.{statement}
 use Rattle.report.proofs.parts.put_line.Tie as tie
 
-hole-requires : tie.Need-hole-requires
-hole-requires c κs = search needs
-
-enum-known-hole : tie.Need-enum-known-hole
-enum-known-hole c = search needs
-
-put-hole-requires : tie.Need-put-hole-requires
-put-hole-requires c κs = search needs
-
-enum-told : tie.Need-enum-told
-enum-told c = search needs
-
-enum-told-2 : tie.Need-enum-told-2
-enum-told-2 c = search needs
-
-same-length : tie.Need-same-length
-same-length c = search needs
-
 returns : tie.Need-returns
 returns c =
     let s = c .before .before .before .before .before .before .before .before .before in
-    line-makes (s .args .table .now) (s .args .n) (s .args .line) (c .before .before .before .before .before .before .before .hole .ensures) (s .args .text .now) (s .args .at) _ (c .before .before .before .before .before .hole2 .given .1) _ _ (c .before .before .put-hole .ensures)
+    line-makes (s .args .table .now) (s .args .n) (s .args .line) (c .before .before .before .before .before .before .before .hole .ensures)
+    (s .args .text .now) (s .args .at) _ (c .before .before .before .before .before .hole2 .given .1) _ _ (c .before .before .put-hole-line .ensures)
 
 returns-2 : tie.Need-returns-2
 returns-2 c =
@@ -41,12 +24,12 @@ pub put-line-spec : {M : Type 1} → statement M
 put-line-spec =
     tie.close
     (tie.spec
-    hole-requires
-    enum-known-hole
-    put-hole-requires
-    enum-told
-    enum-told-2
-    same-length
+    (λ c κs. search needs)
+    (λ c. search needs)
+    (λ c κs. search needs)
+    (λ c. search needs)
+    (λ c. search needs)
+    (λ c. search needs)
     returns
     returns-2
     returns-3)

@@ -1,17 +1,18 @@
--- The invariant: the lines that are left, written on what is there, are the whole, each line passed took at most 93 bytes, and
--- the holes counted and those of the lines left are all. The measure: how many lines are left.
+-- The invariant: whoever writes the lines that are left has written all, and the holes counted and those of the lines left are
+-- all. The measure: how many lines are left.
 use mathlib.Core.Path.{_≡_}
-use Prim.Native.Nat.{_+_, _-_, _*_, _≤_}
+use Prim.Native.Nat.{_+_, _-_, _≤_}
 use native.Mathlib.Omega.{arith}
+use borrow.Author.Needs.{needs}
+use Rattle.text.proofs.Wrote.{Rest, rest-turn, rest-end, wrote-length}
 use Rattle.report.specs.Parts.{linesText, holesIn}
-use Rattle.report.proofs.Turns.{Left, left-turn, left-none, lines-start, lines-next, holes-next, lines-over, holes-over}
+use Rattle.report.proofs.Turns.{lines-start, lines-next, holes-next, lines-over, holes-over}
 use Rattle.report.proofs.parts.put_lines.Statement.{statement}
 use Rattle.report.proofs.parts.put_lines.Tie as tie
 
 abbrev Inv-loop : tie.InvT-loop
 Inv-loop text₀ at table n end₀ holes₀ i₀ text end holes i =
-    (i ≤ n) × (holes ≤ i) × (end ≤ at + 93 * i) × (holes + holesIn table n i (n - i) ≡ holesIn table n 0 n)
-    × Left text₀ at (linesText table n 0 n) text end (linesText table n i (n - i))
+    (i ≤ n) × (holes ≤ i) × (holes + holesIn table n i (n - i) ≡ holesIn table n 0 n) × Rest text₀ at (linesText table n 0 n) text end (linesText table n i (n - i))
 
 abbrev μ-loop : tie.MeasureT-loop
 μ-loop text₀ at table n end₀ holes₀ i₀ text end holes i = n - i
@@ -19,14 +20,11 @@ abbrev μ-loop : tie.MeasureT-loop
 loop-holds : tie.Need-loop-holds Inv-loop μ-loop
 loop-holds c =
     let s = c .before in
-    let h = lines-start (s .args .text .now) (s .args .at) (s .args .table .now) (s .args .n) in
-    (omega arith, omega arith, omega arith, h .0, h .1)
+    let h = lines-start (s .args .table .now) (s .args .n) in
+    (omega arith, omega arith, h .0, h .1)
 
 add-put-line : tie.Need-add-put-line Inv-loop μ-loop
 add-put-line c = omega arith
-
-put-line-requires : tie.Need-put-line-requires Inv-loop μ-loop
-put-line-requires c κs = let l = c .before .before .loop .inv in omega (arith, l .2, l .4 .same)
 
 add-holes : tie.Need-add-holes Inv-loop μ-loop
 add-holes c = let l = c .before .before .before .before .before .before .loop .inv in omega (arith, l .1, c .before .before .before .put-line .ensures .2)
@@ -45,21 +43,20 @@ loop-again c =
     let i = c .before .before .before .before .before .loop-test .taken in (
       omega arith,
       omega (arith, l .inv .1, p .2),
-      omega (arith, l .inv .2, p .0 .short),
-      omega (arith, l .inv .3, p .1, holes-next (s .args .table .now) (s .args .n) (l .i) i),
-      left-turn (l .inv .4) (lines-next (s .args .table .now) (s .args .n) (l .i) i) (p .0) (omega (arith, l .inv .2, l .inv .4 .same)),
+      omega (arith, l .inv .2, p .1, holes-next (s .args .table .now) (s .args .n) (l .i) i),
+      rest-turn _ (l .inv .3) _ (lines-next (s .args .table .now) (s .args .n) (l .i) i) (p .0),
     )
-
-same-length : tie.Need-same-length Inv-loop μ-loop
-same-length c = c .before .loop .inv .4 .same
 
 returns : tie.Need-returns Inv-loop μ-loop
 returns c =
     let s = c .before .before .before in
     let l = c .before .loop in (
-      record { wrote = left-none (l .inv .4) (lines-over (s .args .table .now) (s .args .n) (l .i) (c .loop-test .left)); short = omega (arith, l .inv .0, l .inv .2) },
-      omega (arith, l .inv .3, holes-over (s .args .table .now) (s .args .n) (l .i) (c .loop-test .left)),
+      rest-end _ (l .inv .3) (lines-over (s .args .table .now) (s .args .n) (l .i) (c .loop-test .left)),
+      omega (arith, l .inv .2, holes-over (s .args .table .now) (s .args .n) (l .i) (c .loop-test .left)),
     )
+
+same-length : tie.Need-same-length Inv-loop μ-loop
+same-length c = wrote-length (returns c .0)
 
 pub put-lines-spec : {M : Type 1} → statement M
 put-lines-spec =
@@ -69,7 +66,7 @@ put-lines-spec =
     μ-loop
     loop-holds
     add-put-line
-    put-line-requires
+    (λ c κs. search needs)
     add-holes
     add-i
     loop-less

@@ -7,17 +7,11 @@ use Rattle.rules.proofs.State.declare.Tie as tie
 returns : tie.Need-returns
 returns c = search tests
 
-has-requires : tie.Need-has-requires
-has-requires c κs = search needs
-
 returns-2 : tie.Need-returns-2
 returns-2 c = search (tests, ← c .before .has .ensures, c .if2 .taken)
-
-insert-requires : tie.Need-insert-requires
-insert-requires c κs = search needs
 
 returns-3 : tie.Need-returns-3
 returns-3 c = search (tests, ← c .before .before .has .ensures, c .before .if2 .left, c .insert .ensures)
 
 pub declare-spec : {M : Type 1} → statement M
-declare-spec = tie.close (tie.spec returns has-requires returns-2 insert-requires returns-3)
+declare-spec = tie.close (tie.spec returns (λ c κs. search needs) returns-2 (λ c κs. search needs) returns-3)

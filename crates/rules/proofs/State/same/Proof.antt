@@ -21,15 +21,16 @@ returns-4 : tie.Need-returns-4
 unfolding sameState
 returns-4 c = search (eq-eqb, ne-eqb)
 
-same-requires : tie.Need-same-requires
-same-requires c κs = search needs
-
-same-requires-2 : tie.Need-same-requires-2
-same-requires-2 c κs = search needs
-
 returns-5 : tie.Need-returns-5
 unfolding sameState
-returns-5 c = search (eq-eqb, ← c .before .before .before .before .same .ensures, c .before .before .before .if5 .taken, c .same2 .ensures, c .before .before .before .before .before .before .before .before .before .before .before .before .before .before .before .before .if1 .left)
+returns-5 c =
+    search (
+      eq-eqb,
+      ← c .before .before .before .before .same .ensures,
+      c .before .before .before .if5 .taken,
+      c .same2 .ensures,
+      c .before .before .before .before .before .before .before .before .before .before .before .before .before .before .before .before .if1 .left,
+    )
 
 returns-6 : tie.Need-returns-6
 unfolding sameState
@@ -43,7 +44,7 @@ same-spec =
     returns-2
     returns-3
     returns-4
-    same-requires
-    same-requires-2
+    (λ c κs. search needs)
+    (λ c κs. search needs)
     returns-5
     returns-6)

@@ -1,0 +1,9 @@
+pub mod Refused
+pub mod AcceptedFile
+pub mod GoodTables
+pub mod Places
+pub mod LineHoles
+pub mod WrittenTable
+pub mod EditSpan
+pub mod Small
+pub mod HoleRanges

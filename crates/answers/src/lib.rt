@@ -1,0 +1,1 @@
+// No code: what the answers of reading, editing, writing and asking say.

@@ -1,0 +1,154 @@
+-- Which forms a line can have by its first bytes.
+use mathlib.Core.Path.{_≡_, refl, sym, ap, subst, _∙_}
+use mathlib.Core.Bool.{Bool, true, false, _&&_, cond, and-true, and-false}
+use mathlib.Core.List.{List, [], _∷_}
+use Prim.Native.Nat.{ℕ, _<_, _≤_}
+use Prim.Native.Char.{code}
+use native.Mathlib.Omega.{arith}
+use native.Mathlib.Decide.{ℕ-discrete}
+use borrow.Author.Tests.{ne-eqb}
+use lib.Dec.{eqb}
+use lib.ListN.{length, getD, drop}
+use lib.Seq.{drop-cons}
+use Rattle.lists.specs.Words.{bytes, startsWith}
+use Rattle.rules.specs.declared.Command.the-variants as K
+use Rattle.rules.specs.declared.LineAnswer.{LineAnswer}
+use Rattle.rules.specs.Refusals.{noSuchForm}
+use Rattle.rules.specs.Commands.{Form, m48, metric, m15, m16, m30, Formed, is, no-form, atEnd, pointForm, formOf, says, saysNo, meaningOf, onForm, commandOf}
+use Rattle.command.specs.declared.Pointed.the-variants as P
+use Rattle.command.specs.declared.Code.{Code}
+use Rattle.command.specs.declared.Code.the-variants as D
+use Rattle.command.specs.declared.CodeRead.{CodeRead}
+use Rattle.command.specs.declared.CodeRead.the-variants as M
+use Rattle.command.specs.Parts.{pointed, word, codeOf, codeCommand}
+use Rattle.command.proofs.Words.{word-is}
+
+-- what the last arm of a match knows: the byte is none of those before it, the last of them first
+abbrev NoneOf : List ℕ → ℕ → Type 0
+NoneOf [] b = Unit {0}
+NoneOf (v ∷ vs) b = NoneOf vs b × (b ≡ v → ⊥)
+
+-- ---- the first byte
+
+pub empty-line : (s : List ℕ) → length s ≡ 0 → saysNo noSuchForm ≡ commandOf s
+unfolding commandOf formOf startsWith
+empty-line [] h = refl
+empty-line (b ∷ l) h = absurd (omega arith)
+
+no-letter : (b : ℕ) (l : List ℕ) → NoneOf (bytes "I;%TMGX") b → saysNo noSuchForm ≡ commandOf (b ∷ l)
+unfolding commandOf formOf startsWith
+no-letter b l h =
+    rw (
+      ne-eqb b (code ";") (h .0 .1),
+      ne-eqb b (code "M") (h .0 .0 .0 .0 .1),
+      ne-eqb b (code "I") (h .1),
+      ne-eqb b (code "%") (h .0 .0 .1),
+      ne-eqb b (code "G") (h .0 .0 .0 .0 .0 .1),
+      ne-eqb b (code "T") (h .0 .0 .0 .1),
+      ne-eqb b (code "X") (h .0 .0 .0 .0 .0 .0 .1),
+    )
+
+module _ (s : List ℕ) (h : length s ≡ 0 → ⊥) where
+  first : {b : ℕ} → getD s 0 0 ≡ b → b ∷ drop 1 s ≡ s
+  first e = sym (drop-cons s 0 0 (omega arith) ∙ ap (λ (z : ℕ). z ∷ drop 1 s) e)
+
+  pub first-is : {b : ℕ} → getD s 0 0 ≡ b → commandOf (b ∷ drop 1 s) ≡ commandOf s
+  first-is e = ap commandOf (first e)
+
+  -- a hit's X belongs to its point
+  pub first-x : getD s 0 0 ≡ code "X" → onForm (pointForm (drop 0 s) (pointed P.Hit)) ≡ commandOf s
+  unfolding commandOf formOf startsWith
+  first-x e = subst (λ (l : List ℕ). onForm (pointForm l (pointed P.Hit)) ≡ commandOf l) (first e) refl
+
+  pub first-other : NoneOf (bytes "I;%TMGX") (getD s 0 0) → saysNo noSuchForm ≡ commandOf s
+  first-other n = no-letter (getD s 0 0) (drop 1 s) n ∙ first-is refl
+
+-- ---- M
+
+abbrev codeAnswer : CodeRead → LineAnswer
+codeAnswer (M.Is k) = says (codeCommand k)
+codeAnswer M.None = saysNo noSuchForm
+
+code-by : (t : Bool) (f : Form) (k : Code) (x : Formed) (y : CodeRead) → meaningOf f ≡ says (codeCommand k) → onForm x ≡ codeAnswer y
+    → onForm (cond t (is f) x) ≡ codeAnswer (cond t (M.Is k) y)
+code-by true f k x y e q = e
+code-by false f k x y e q = q
+
+m-two : (a b : ℕ) → commandOf (code "M" ∷ a ∷ b ∷ []) ≡ codeAnswer (codeOf a b)
+unfolding commandOf formOf startsWith codeOf meaningOf
+m-two a b =
+    simp (and-true, and-false)
+    (code-by (eqb a (code "4") && eqb b (code "8")) m48 D.M48 _ _ refl
+    (code-by (eqb a (code "1") && eqb b (code "5")) m15 D.M15 _ _ refl
+    (code-by (eqb a (code "1") && eqb b (code "6")) m16 D.M16 _ _ refl
+    (code-by (eqb a (code "3") && eqb b (code "0")) m30 D.M30 no-form M.None refl refl))))
+
+pub m-code : (s : List ℕ) → length s ≡ 3 → {r v : CodeRead} → r ≡ codeOf (getD s 1 0) (getD s 2 0) → r ≡ v → codeAnswer v ≡ commandOf (code "M" ∷ drop 1 s)
+m-code [] h e g = absurd (omega arith)
+m-code (x ∷ []) h e g = absurd (omega arith)
+m-code (x ∷ a ∷ []) h e g = absurd (omega arith)
+m-code (x ∷ a ∷ b ∷ []) h e g = ap codeAnswer (sym g ∙ e) ∙ sym (m-two a b)
+m-code (x ∷ a ∷ b ∷ d ∷ l) h e g = absurd (omega arith)
+
+-- a line of more than three bytes is METRIC or no form: M48 isn't where METRIC can be
+cond-same : (t : Bool) (x : Formed) → cond t x x ≡ x
+cond-same true x = refl
+cond-same false x = refl
+
+m-apart : (a : ℕ) (x y : Bool) (z : Formed) → cond (eqb a (code "4") && x) no-form (cond (eqb a (code "E") && y) z no-form) ≡ cond (eqb a (code "E") && y) z no-form
+m-apart a x y z = go (ℕ-discrete a (code "4"))
+  where
+    go : Dec (a ≡ code "4") → cond (eqb a (code "4") && x) no-form (cond (eqb a (code "E") && y) z no-form) ≡ cond (eqb a (code "E") && y) z no-form
+    go (yes e) = rw (e, cond-same x no-form)
+    go (no e) = rw (ne-eqb a (code "4") e)
+
+m-form : (s : List ℕ) → (length s ≡ 3 → ⊥)
+    → formOf (code "M" ∷ drop 1 s) ≡ cond (startsWith (drop 1 s) (bytes "ETRIC")) (atEnd (drop 5 (drop 1 s)) metric) no-form
+unfolding formOf startsWith
+m-form [] h = refl
+m-form (x ∷ []) h = refl
+m-form (x ∷ a ∷ []) h = simp and-false
+m-form (x ∷ a ∷ b ∷ []) h = absurd (h refl)
+m-form (x ∷ a ∷ b ∷ d ∷ l) h =
+    simp cond-same (m-apart a (eqb b (code "8") && true) (eqb b (code "T") && (eqb d (code "R") && startsWith l (bytes "IC"))) (atEnd (drop 2 l) metric))
+
+pub m-word : (s : List ℕ) → (length s ≡ 3 → ⊥) → word (drop 1 s) (bytes "ETRIC") K.Metric ≡ commandOf (code "M" ∷ drop 1 s)
+unfolding commandOf meaningOf
+m-word s h = word-is (drop 1 s) (bytes "ETRIC") metric K.Metric refl ∙ ap onForm (sym (m-form s h))
+
+-- ---- G
+
+pub g-short : (s : List ℕ) → length s < 3 → saysNo noSuchForm ≡ commandOf (code "G" ∷ drop 1 s)
+unfolding commandOf formOf startsWith
+g-short [] h = refl
+g-short (x ∷ []) h = refl
+g-short (x ∷ a ∷ []) h = simp and-false
+g-short (x ∷ a ∷ b ∷ l) h = absurd (omega arith)
+
+no-zero : (a : ℕ) (l : List ℕ) → (a ≡ code "0" → ⊥) → saysNo noSuchForm ≡ commandOf (code "G" ∷ a ∷ l)
+unfolding commandOf formOf startsWith
+no-zero a l p = rw (ne-eqb a (code "0") p)
+
+no-digit : (b : ℕ) (l : List ℕ) → NoneOf (bytes "53210") b → saysNo noSuchForm ≡ commandOf (code "G" ∷ code "0" ∷ b ∷ l)
+unfolding commandOf formOf startsWith
+no-digit b l h =
+    rw (
+      ne-eqb b (code "5") (h .1),
+      ne-eqb b (code "0") (h .0 .0 .0 .0 .1),
+      ne-eqb b (code "1") (h .0 .0 .0 .1),
+      ne-eqb b (code "2") (h .0 .0 .1),
+      ne-eqb b (code "3") (h .0 .1),
+    )
+
+module _ (s : List ℕ) (h : 3 ≤ length s) where
+  three : drop 1 s ≡ getD s 1 0 ∷ getD s 2 0 ∷ drop 3 s
+  three = drop-cons s 1 0 (omega arith) ∙ ap (λ (l : List ℕ). getD s 1 0 ∷ l) (drop-cons s 2 0 (omega arith))
+
+  pub g-is : {a b : ℕ} → getD s 1 0 ≡ a → getD s 2 0 ≡ b → commandOf (code "G" ∷ a ∷ b ∷ drop 3 s) ≡ commandOf (code "G" ∷ drop 1 s)
+  g-is e q = rw (three, e, q)
+
+  pub g-no-zero : (getD s 1 0 ≡ code "0" → ⊥) → saysNo noSuchForm ≡ commandOf (code "G" ∷ drop 1 s)
+  g-no-zero p = no-zero (getD s 1 0) (getD s 2 0 ∷ drop 3 s) p ∙ g-is refl refl
+
+  pub g-no-digit : getD s 1 0 ≡ code "0" → NoneOf (bytes "53210") (getD s 2 0) → saysNo noSuchForm ≡ commandOf (code "G" ∷ drop 1 s)
+  g-no-digit z n = no-digit (getD s 2 0) (drop 3 s) n ∙ g-is z refl

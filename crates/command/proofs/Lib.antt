@@ -1,0 +1,5 @@
+pub mod Points
+pub mod Tools
+pub mod Words
+pub mod Letters
+pub mod Comments

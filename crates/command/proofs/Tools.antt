@@ -1,0 +1,114 @@
+-- T, a tool number, and the diameter that declares it: the digits are counted first, and then the ranges are asked.
+use mathlib.Core.Path.{_≡_, refl, sym, ap, _∙_}
+use mathlib.Core.Bool.{Bool, true, false, cond}
+use mathlib.Core.List.{List}
+use Prim.Native.Nat.{ℕ, _+_, _<_, _≤_}
+use native.Mathlib.Omega.{arith}
+use borrow.Author.Tests.{le-leb, lt-leb, eq-eqb, ne-eqb}
+use lib.ListN.{length, drop}
+use lib.Seq.{drop-drop}
+use Rattle.lists.specs.Words.{bytes, startsWith}
+use Rattle.rules.specs.declared.Command.the-variants as K
+use Rattle.rules.specs.declared.LineAnswer.{LineAnswer}
+use Rattle.rules.specs.Refusals.{noSuchForm, outOfRange}
+use Rattle.rules.specs.Numbers.{maxTool, digitsOf, unsignedOf, isTool, isSize, millionths}
+use Rattle.rules.specs.Commands.{declare, select, atEnd, toolForm, says, saysNo, inRange, meaningOf, onForm}
+use Rattle.number.specs.declared.Run.{Run}
+use Rattle.number.specs.declared.Written.{Written}
+use Rattle.number.specs.declared.Number.{Number}
+use Rattle.number.specs.declared.Number.the-variants as W
+use Rattle.number.specs.declared.SizeRead.{SizeRead}
+use Rattle.number.specs.declared.SizeRead.the-variants as S
+use Rattle.number.specs.Capped.{heldRun, numberAt, decimalOf, sizeRead}
+use Rattle.number.proofs.Runs.{count-at, run-next, run-rest, short-run}
+use Rattle.command.specs.Parts.{declareAt}
+use Rattle.command.proofs.Points.{ended-is, ended-no, size-none, size-read, size-goes-on, size-ends, size-same}
+
+is-tool : (t : ℕ) → (t ≡ 0 → ⊥) → t ≤ maxTool → isTool t ≡ true
+unfolding isTool
+is-tool t h k = rw (le-leb 1 t (omega arith), le-leb t maxTool k)
+
+no-tool : (t : ℕ) → t ≡ 0 → isTool t ≡ false
+unfolding isTool
+no-tool t e = rw e
+
+-- ---- a diameter to the line's end
+
+abbrev declareAnswer : ℕ → SizeRead → LineAnswer
+declareAnswer t (S.Is d) = says (K.Declare t d)
+declareAnswer t S.Out = saysNo outOfRange
+
+declare-by : (t : ℕ) (b : Bool) (n : ℕ) → inRange b (K.Declare t n) ≡ declareAnswer t (cond b (S.Is n) S.Out)
+unfolding inRange
+declare-by t true n = refl
+declare-by t false n = refl
+
+module _ (s : List ℕ) (at t : ℕ) {r : Number} (e : r ≡ numberAt (length s) (unsignedOf (drop at s))) where
+  pub declare-none : r ≡ W.None → saysNo noSuchForm ≡ onForm (declareAt (drop at s) t)
+  declare-none g = rw (size-none s at e g (declare t))
+
+  module _ {d : Written} (g : r ≡ W.Got d) where
+    pub declare-goes-on : (d .next ≡ length s → ⊥) → saysNo noSuchForm ≡ onForm (declareAt (drop at s) t)
+    declare-goes-on n = rw (size-goes-on s at e g n (declare t))
+
+    module _ (n : d .next ≡ length s) where
+      pub declare-zero : t ≡ 0 → saysNo outOfRange ≡ onForm (declareAt (drop at s) t)
+      unfolding meaningOf inRange
+      declare-zero z = rw (size-ends s at e g n (declare t), no-tool t z)
+
+      pub declare-ends : (t ≡ 0 → ⊥) → t ≤ maxTool → {z v : SizeRead} → z ≡ sizeRead (decimalOf d) → z ≡ v → declareAnswer t v ≡ onForm (declareAt (drop at s) t)
+      unfolding meaningOf sizeRead
+      declare-ends h k ez ev =
+          let d = size-read s at e g .decimal in
+          rw (size-ends s at e g n (declare t), is-tool t h k)
+          (ap (declareAnswer t) (sym ev ∙ ez ∙ size-same s at e g) ∙ sym (declare-by t (isSize d) (millionths d)))
+
+-- ---- T and its digits
+
+module _ (s : List ℕ) {t : Run} (e : t ≡ heldRun 1 0 (digitsOf (drop 1 s))) {c : Bool} (ec : c ≡ startsWith (drop (t .next) s) (bytes "C")) where
+  module _ (h : c ≡ true) where
+    pub declare-count : (t .next ≡ 3 → ⊥) → saysNo noSuchForm ≡ onForm (toolForm (drop 1 s))
+    unfolding toolForm
+    declare-count n = rw (run-rest s 1 0 e, sym ec ∙ h, ne-eqb (digitsOf (drop 1 s) .count) 2 (λ z. n (omega (arith, run-next s 1 0 e))))
+
+    pub declare-two : t .next ≡ 3 → onForm (declareAt (drop (t .next + 1) s) (t .value)) ≡ onForm (toolForm (drop 1 s))
+    unfolding toolForm
+    declare-two n =
+        rw (run-rest s 1 0 e, sym ec ∙ h, eq-eqb (digitsOf (drop 1 s) .count) 2 (omega (arith, run-next s 1 0 e)), drop-drop 1 (t .next) s)
+        (ap (λ (v : ℕ). onForm (declareAt (drop (t .next + 1) s) v)) (short-run (drop 1 s) 1 t e (omega arith) .0))
+
+  module _ (h : c ≡ false) where
+    pub select-none : t .next ≡ 1 → saysNo noSuchForm ≡ onForm (toolForm (drop 1 s))
+    unfolding toolForm
+    select-none n = rw (run-rest s 1 0 e, sym ec ∙ h, lt-leb 1 (digitsOf (drop 1 s) .count) (omega (arith, run-next s 1 0 e)))
+
+    module _ (n : t .next ≡ 1 → ⊥) where
+      some : 1 ≤ digitsOf (drop 1 s) .count
+      some = omega (arith, run-next s 1 0 e)
+
+      pub select-many : 3 < t .next → saysNo noSuchForm ≡ onForm (toolForm (drop 1 s))
+      unfolding toolForm
+      select-many m =
+          rw (run-rest s 1 0 e, sym ec ∙ h, le-leb 1 (digitsOf (drop 1 s) .count) some, lt-leb (digitsOf (drop 1 s) .count) 2 (omega (arith, run-next s 1 0 e)))
+
+      module _ (m : t .next ≤ 3) where
+        value : (t .value ≡ digitsOf (drop 1 s) .value) × (t .value ≤ maxTool)
+        value = short-run (drop 1 s) 1 t e (omega arith)
+
+        selected : toolForm (drop 1 s) ≡ atEnd (drop (t .next) s) (select (t .value))
+        unfolding toolForm
+        selected =
+            let few : digitsOf (drop 1 s) .count ≤ 2 = omega (arith, run-next s 1 0 e) in
+            rw (run-rest s 1 0 e, sym ec ∙ h, le-leb 1 (digitsOf (drop 1 s) .count) some, le-leb (digitsOf (drop 1 s) .count) 2 few, value .0)
+
+        pub select-goes-on : (t .next ≡ length s → ⊥) → saysNo noSuchForm ≡ onForm (toolForm (drop 1 s))
+        select-goes-on g = rw (selected, ended-no s (t .next) (select (t .value)) (omega (arith, run-next s 1 0 e, count-at s 1, some)) g)
+
+        module _ (g : t .next ≡ length s) where
+          pub select-zero : t .value ≡ 0 → saysNo outOfRange ≡ onForm (toolForm (drop 1 s))
+          unfolding meaningOf inRange
+          select-zero z = rw (selected, ended-is s (t .next) (select (t .value)) g, no-tool (t .value) z)
+
+          pub select-is : (t .value ≡ 0 → ⊥) → says (K.Select (t .value)) ≡ onForm (toolForm (drop 1 s))
+          unfolding meaningOf inRange
+          select-is z = rw (selected, ended-is s (t .next) (select (t .value)) g, is-tool (t .value) z (value .1))

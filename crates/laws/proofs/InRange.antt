@@ -1,0 +1,160 @@
+-- A line that says a command says one whose numbers are in range (where it is refused the command is a comment), and a
+-- step keeps the ranges of a state: so rows that lines read as are in range.
+use mathlib.Core.Path.{_≡_, refl, subst}
+use mathlib.Core.Bool.{Bool, true, false, _&&_, cond}
+use mathlib.Core.List.{List, [], _∷_, _++_}
+use Prim.Native.Nat.{ℕ, zero, suc, _+_, _≤_}
+use native.Mathlib.Omega.{arith}
+use borrow.Author.Tests.{leb-true}
+use lib.Dec.{leb, eqb}
+use lib.IntN.{pos, negℤ, natAbs}
+use lib.ListN.{length, take, drop}
+use Rattle.lists.proofs.Choice.{cond-all, both}
+use Rattle.runs.specs.Machine.{yields, stops, lastOf, nil, link}
+use Rattle.runs.proofs.Append.{Reads}
+use Rattle.runs.proofs.Meeting.{Redone, past, met, on}
+use Rattle.rules.specs.declared.State.{State}
+use Rattle.rules.specs.declared.Command.{Command}
+use Rattle.rules.specs.declared.Command.the-variants as K
+use Rattle.rules.specs.declared.LineAnswer.{LineAnswer}
+use Rattle.rules.specs.Numbers.{maxLine, maxNumber, maxTool, maxPlaces, maxLines, Decimal, withSign, millionths, isCoordinate, coordinateOf, isSize, isTool}
+use Rattle.rules.specs.Lines.{Line, textOf, isPrintable}
+use Rattle.rules.specs.Commands.{Form, comment, m48, metric, inch, declare, percent, g05, g00, select, hit, m15, m16, g01, g02, g03, m30, Formed, is, no-form, formOf, pointOf, inRange, meaningOf, onForm, commandOf, lineOf}
+use Rattle.rules.specs.State.{taken, hasEnded}
+use Rattle.rules.specs.Reading.{sayOut, answerIn, commandIn, Rows}
+use Rattle.rules.specs.Ranges.{PointOk, NumberOk, ArcOk, StateOk, CommandOk}
+use Rattle.laws.proofs.Keeps.{taken-ok}
+
+nat-of-minus : (n : ℕ) → natAbs (negℤ (pos n)) ≡ n
+nat-of-minus zero = refl
+nat-of-minus (suc n) = refl
+
+sign-same : (neg : Bool) (n : ℕ) → natAbs (withSign neg n) ≡ n
+sign-same true n = nat-of-minus n
+sign-same false n = refl
+
+coordinate-ok : (d : Decimal) → isCoordinate d ≡ true → natAbs (coordinateOf d) ≤ maxNumber
+unfolding isCoordinate coordinateOf
+coordinate-ok d e =
+    rw (sign-same (d .negative) (millionths d)) (leb-true (millionths d) maxNumber (both (leb (d .places) maxPlaces) (leb (millionths d) maxNumber) e .1))
+
+size-ok : (d : Decimal) → isSize d ≡ true → NumberOk 1 maxNumber (millionths d)
+unfolding isSize
+size-ok d e =
+    let h = both (leb (d .places) maxPlaces) (leb 1 (millionths d) && leb (millionths d) maxNumber) e in
+    let k = both (leb 1 (millionths d)) (leb (millionths d) maxNumber) (h .1) in
+    record { low = leb-true 1 (millionths d) (k .0); high = leb-true (millionths d) maxNumber (k .1) }
+
+tool-ok : (t : ℕ) → isTool t ≡ true → NumberOk 1 maxTool t
+unfolding isTool
+tool-ok t e = let h = both (leb 1 t) (leb t maxTool) e in record { low = leb-true 1 t (h .0); high = leb-true t maxTool (h .1) }
+
+point-ok : (x y : Decimal) → isCoordinate x && isCoordinate y ≡ true → PointOk (pointOf x y)
+point-ok x y e = let h = both (isCoordinate x) (isCoordinate y) e in record { x-range = coordinate-ok x (h .0); y-range = coordinate-ok y (h .1) }
+
+arc-ok : (x y r : Decimal) → isCoordinate x && isCoordinate y && isSize r ≡ true → ArcOk (record { to = pointOf x y; radius = millionths r })
+arc-ok x y r e =
+    let h = both (isCoordinate x && isCoordinate y) (isSize r) e in
+    record { to-range = point-ok x y (h .0); radius-range = size-ok r (h .1) }
+
+in-range : (t : Bool) (c : Command) → (t ≡ true → CommandOk c) → CommandOk (inRange t c .command)
+unfolding inRange
+in-range true c h = h refl
+in-range false c h = tt
+
+meaning-ok : (f : Form) → CommandOk (meaningOf f .command)
+unfolding meaningOf
+meaning-ok comment = tt
+meaning-ok m48 = tt
+meaning-ok metric = tt
+meaning-ok inch = tt
+meaning-ok (declare t d) = in-range (isTool t && isSize d) (K.Declare t (millionths d)) (λ e. let h = both (isTool t) (isSize d) e in (tool-ok t (h .0), size-ok d (h .1)))
+meaning-ok percent = tt
+meaning-ok g05 = tt
+meaning-ok (g00 x y) = in-range (isCoordinate x && isCoordinate y) (K.G00 (pointOf x y)) (point-ok x y)
+meaning-ok (select t) = in-range (isTool t) (K.Select t) (tool-ok t)
+meaning-ok (hit x y) = in-range (isCoordinate x && isCoordinate y) (K.Hit (pointOf x y)) (point-ok x y)
+meaning-ok m15 = tt
+meaning-ok m16 = tt
+meaning-ok (g01 x y) = in-range (isCoordinate x && isCoordinate y) (K.G01 (pointOf x y)) (point-ok x y)
+meaning-ok (g02 x y r) = in-range (isCoordinate x && isCoordinate y && isSize r) (K.G02 (record { to = pointOf x y; radius = millionths r })) (arc-ok x y r)
+meaning-ok (g03 x y r) = in-range (isCoordinate x && isCoordinate y && isSize r) (K.G03 (record { to = pointOf x y; radius = millionths r })) (arc-ok x y r)
+meaning-ok m30 = tt
+
+form-ok : (f : Formed) → CommandOk (onForm f .command)
+form-ok (is f) = meaning-ok f
+form-ok no-form = tt
+
+pub line-ok : (l : List ℕ) → CommandOk (lineOf l .command)
+unfolding lineOf commandOf
+line-ok l =
+    cond-all (λ (a : LineAnswer). CommandOk (a .command)) (leb (length l) maxLine)
+    (λ _. cond-all (λ (a : LineAnswer). CommandOk (a .command)) (isPrintable l) (λ _. form-ok (formOf l)) (λ _. tt))
+    (λ _. tt)
+
+-- ---- rows
+
+-- rows whose numbers are all in range
+abbrev pub RowsOk : Rows → Type 0
+RowsOk [] = Unit {0}
+RowsOk (r ∷ rs) = CommandOk (r .command) × StateOk (r .state) × RowsOk rs
+
+pub rows-append : (xs ys : Rows) → RowsOk xs → RowsOk ys → RowsOk (xs ++ ys)
+rows-append [] ys g h = h
+rows-append (x ∷ xs) ys g h = (g .0, g .1, rows-append xs ys (g .2) h)
+
+pub rows-first : (xs ys : Rows) → RowsOk (xs ++ ys) → RowsOk xs
+rows-first [] ys g = tt
+rows-first (x ∷ xs) ys g = (g .0, g .1, rows-first xs ys (g .2))
+
+pub rows-rest : (xs ys : Rows) → RowsOk (xs ++ ys) → RowsOk ys
+rows-rest [] ys g = g
+rows-rest (x ∷ xs) ys g = rows-rest xs ys (g .2)
+
+pub rows-take : (n : ℕ) (rs : Rows) → RowsOk rs → RowsOk (take n rs)
+rows-take zero rs g = tt
+rows-take (suc n) [] g = tt
+rows-take (suc n) (r ∷ rs) g = (g .0, g .1, rows-take n rs (g .2))
+
+pub rows-drop : (n : ℕ) (rs : Rows) → RowsOk rs → RowsOk (drop n rs)
+rows-drop zero rs g = g
+rows-drop (suc n) [] g = tt
+rows-drop (suc n) (r ∷ rs) g = rows-drop n rs (g .2)
+
+pub last-ok : (p : State) (rs : Rows) → StateOk p → RowsOk rs → StateOk (lastOf p rs)
+unfolding lastOf
+last-ok p [] s g = s
+last-ok p (r ∷ rs) s g = last-ok (r .state) rs (g .1) (g .2)
+
+-- the command that an answer gives
+answer-ok : (a : LineAnswer) (c : Command) → CommandOk (a .command) → sayOut a ≡ yields c → CommandOk c
+answer-ok a c h = by (eqb (a .refusal .number) 0)
+  where
+    by : (t : Bool) → cond t (yields (a .command)) (stops (a .refusal)) ≡ yields c → CommandOk c
+    by true e = let d : a .command ≡ c = cc in subst CommandOk d h
+    by false e = absurd (let z : _≡_ {A = ℕ} 0 1 = cc in omega arith)
+
+pub said-ok : (l : List ℕ) (c : Command) → sayOut (lineOf l) ≡ yields c → CommandOk c
+said-ok l c h = answer-ok (lineOf l) c (line-ok l) h
+
+pub read-ok : (i : ℕ) (l : Line) (c : Command) → commandIn i l ≡ yields c → CommandOk c
+unfolding commandIn answerIn
+read-ok i l c h =
+    answer-ok (answerIn i l) c
+    (cond-all (λ (a : LineAnswer). CommandOk (a .command)) (leb i maxLines)
+    (λ _. cond-all (λ (a : LineAnswer). CommandOk (a .command)) (l .ended) (λ _. line-ok (textOf (l .bytes))) (λ _. tt))
+    (λ _. tt)) h
+
+pub reads-ok : {p : State} {ls : List Line} {i : ℕ} {rs : Rows} → Reads commandIn taken p ls i rs → StateOk p → RowsOk rs
+reads-ok nil s = tt
+reads-ok {p} (link {l = l} {i = i} {r = r} e f h) s =
+    let c : CommandOk (r .command) = read-ok (i + 1) l (r .command) e in
+    let q : StateOk (r .state) = taken-ok p (r .state) (r .command) s c f in
+    (c, q, reads-ok h q)
+
+pub redone-ok : {p : State} {rs ns : Rows} → Redone taken hasEnded p rs ns → StateOk p → RowsOk rs → RowsOk ns
+redone-ok (past d) s g = tt
+redone-ok {p} (met {q = q} {r = r} f e) s g = (g .0, taken-ok p q (r .command) s (g .0) f, tt)
+redone-ok {p} (on {q = q} {r = r} f ne h) s g =
+    let o : StateOk q = taken-ok p q (r .command) s (g .0) f in
+    (g .0, o, redone-ok h o (g .2))

@@ -1,0 +1,11 @@
+pub mod Bench
+pub mod Keeps
+pub mod Sizes
+pub mod Lines
+pub mod Digits
+pub mod InRange
+pub mod RowTests
+pub mod Rows
+pub mod Entries
+pub mod Ways
+pub mod Declared

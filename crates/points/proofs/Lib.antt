@@ -1,0 +1,3 @@
+pub mod Quarters
+pub mod Signed
+pub mod Same

@@ -1,0 +1,23 @@
+-- For contracts of private functions alone: parts of a row's numbers.
+use mathlib.Core.Bool.{Bool, _&&_}
+use mathlib.Core.List.{List}
+use Prim.Native.Nat.{ℕ, _+_}
+use lib.IntN.{ℤ}
+use Rattle.points.specs.declared.Point.{Point}
+use Rattle.tools.specs.declared.Tools.{Tools}
+use Rattle.tools.specs.Set.{maxWord}
+use Rattle.rules.specs.Rows.{field, fieldN, within, isEven}
+
+-- the point at places j and j + 1 of a row
+abbrev pub pointAt : List ℤ → ℕ → Point
+pointAt a j = record { x = field a j; y = field a (j + 1) }
+
+-- the words of the declared set, and their test
+abbrev pub toolsAt : List ℤ → Tools
+toolsAt a = record { a = fieldN a 11; b = fieldN a 12; c = fieldN a 13; d = fieldN a 14 }
+
+abbrev pub legalFirstWord : List ℤ → Bool
+legalFirstWord a = within 0 maxWord (field a 11) && isEven (field a 11)
+
+abbrev pub legalWords : List ℤ → Bool
+legalWords a = legalFirstWord a && (within 0 maxWord (field a 12) && (within 0 maxWord (field a 13) && within 0 maxWord (field a 14)))

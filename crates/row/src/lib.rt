@@ -1,0 +1,383 @@
+// One row and its numbers: which numbers a row may have, the row that they are, and the numbers of a row.
+ghost use mathlib.Core.Path.{_≡_};
+ghost use mathlib.Core.Bool.{true, _&&_};
+ghost use Prim.Native.Nat.{_+_, _<_};
+ghost use lib.Dec.{T};
+ghost use lib.IntN.{pos};
+ghost use lib.Signed.{nonNeg};
+ghost use lib.ListN.{length};
+ghost use Rattle.rules.specs.Kinds as Kinds;
+ghost use Rattle.rules.specs.Rows as R;
+ghost use Rattle.row.specs.Parts as P;
+ghost use Rattle.row.specs.Row as S;
+use points::Arc;
+use points::Point;
+use rules::Command;
+use rules::Looked;
+use rules::MAX_NUMBER;
+use rules::MAX_TOOL;
+use rules::ROW_WIDTH;
+use rules::State;
+use rules::kind;
+use rules::motion;
+use rules::phase;
+use rules::unit;
+use tools::Tools;
+
+// The places of a row's numbers: the command's five, and the ten of the state after it. A point takes two, the words four.
+const KIND: usize = 0;
+
+const TOOL: usize = 1;
+
+const TO: usize = 2;
+
+const SIZE: usize = 4;
+
+const PHASE: usize = 5;
+
+const UNIT: usize = 6;
+
+const MOTION: usize = 7;
+
+const SELECTED: usize = 8;
+
+const AT: usize = 9;
+
+const WORDS: usize = 11;
+
+// The largest number of 25 bits.
+const MAX_WORD: u32 = 33554431;
+
+// The largest signed number.
+const MAX_SIGNED: u32 = 2147483647;
+
+// ---- one number of a row
+
+// From lo to hi.
+fn within(a: &[i32], j: usize, lo: u32, hi: u32) -> bool
+    requires { ⌜ j < length (now a) ⌝ }
+    ensures { λ r. ⌜ r ≡ R.within lo hi (R.field (now (a .entry)) j) ⌝ }
+{
+    let v = a[j];
+    if v < 0 {
+        return false;
+    }
+    let n = v as u32;
+    lo <= n && n <= hi
+}
+
+// In the range of coordinates.
+fn is_coord(a: &[i32], j: usize) -> bool
+    requires { ⌜ j < length (now a) ⌝ }
+    ensures { λ r. ⌜ r ≡ R.isCoord (R.field (now (a .entry)) j) ⌝ }
+{
+    let v = a[j];
+    -(MAX_NUMBER as i32) <= v && v <= MAX_NUMBER as i32
+}
+
+// A number that a test let through.
+fn natural(a: &[i32], j: usize) -> u32
+    requires { ⌜ (j < length (now a)) × T (nonNeg (R.field (now a) j)) ⌝ }
+    ensures { λ r. ⌜ r ≡ R.fieldN (now (a .entry)) j ⌝ }
+{
+    a[j] as u32
+}
+
+// ---- a point, two numbers
+
+fn coords(a: &[i32], j: usize) -> bool
+    requires { ⌜ j + 1 < length (now a) ⌝ }
+    ensures { λ r. ⌜ r ≡ (R.isCoord (R.field (now (a .entry)) j) && R.isCoord (R.field (now (a .entry)) (j + 1))) ⌝ }
+{
+    is_coord(a, j) && is_coord(a, j + 1)
+}
+
+fn zeros(a: &[i32], j: usize) -> bool
+    requires { ⌜ j + 1 < length (now a) ⌝ }
+    ensures { λ r. ⌜ r ≡ (R.isZero (R.field (now (a .entry)) j) && R.isZero (R.field (now (a .entry)) (j + 1))) ⌝ }
+{
+    within(a, j, 0, 0) && within(a, j + 1, 0, 0)
+}
+
+fn point_at(a: &[i32], j: usize) -> Point
+    requires { ⌜ j + 1 < length (now a) ⌝ }
+    ensures { λ r. ⌜ r ≡ P.pointAt (now (a .entry)) j ⌝ }
+{
+    Point {
+        x: a[j],
+        y: a[j + 1],
+    }
+}
+
+// ---- which numbers a kind carries
+
+fn carries_tool(kind: u32) -> bool
+    ensures { λ r. ⌜ r ≡ Kinds.carriesTool kind ⌝ }
+{
+    kind == kind::DECLARE || kind == kind::SELECT
+}
+
+fn carries_point(kind: u32) -> bool
+    ensures { λ r. ⌜ r ≡ Kinds.carriesPoint kind ⌝ }
+{
+    kind == kind::G00
+        || (kind == kind::HIT || (kind == kind::G01 || (kind == kind::G02 || kind == kind::G03)))
+}
+
+fn carries_size(kind: u32) -> bool
+    ensures { λ r. ⌜ r ≡ Kinds.carriesSize kind ⌝ }
+{
+    kind == kind::DECLARE || (kind == kind::G02 || kind == kind::G03)
+}
+
+// ---- the command's five numbers: in range where the kind carries them, else 0
+
+fn legal_tool(a: &[i32], kind: u32) -> bool
+    requires { ⌜ length (now a) ≡ R.rowWidth ⌝ }
+    ensures { λ r. ⌜ r ≡ R.legalTool kind (R.field (now (a .entry)) 1) ⌝ }
+{
+    if carries_tool(kind) {
+        return within(a, TOOL, 1, MAX_TOOL);
+    }
+    within(a, TOOL, 0, 0)
+}
+
+fn legal_point(a: &[i32], kind: u32) -> bool
+    requires { ⌜ length (now a) ≡ R.rowWidth ⌝ }
+    ensures { λ r. ⌜ r ≡ R.legalPoint kind (R.field (now (a .entry)) 2) (R.field (now (a .entry)) 3) ⌝ }
+{
+    if carries_point(kind) {
+        return coords(a, TO);
+    }
+    zeros(a, TO)
+}
+
+fn legal_size(a: &[i32], kind: u32) -> bool
+    requires { ⌜ length (now a) ≡ R.rowWidth ⌝ }
+    ensures { λ r. ⌜ r ≡ R.legalSize kind (R.field (now (a .entry)) 4) ⌝ }
+{
+    if carries_size(kind) {
+        return within(a, SIZE, 1, MAX_NUMBER);
+    }
+    within(a, SIZE, 0, 0)
+}
+
+fn legal_command(a: &[i32]) -> bool
+    requires { ⌜ length (now a) ≡ R.rowWidth ⌝ }
+    ensures { λ r. ⌜ r ≡ R.legalCommand (now (a .entry)) ⌝ }
+{
+    if !within(a, KIND, 0, kind::M30) {
+        return false;
+    }
+    let kind = natural(a, KIND);
+    if !legal_tool(a, kind) {
+        return false;
+    }
+    if !legal_point(a, kind) {
+        return false;
+    }
+    legal_size(a, kind)
+}
+
+fn command_of(kind: u32, tool: u32, to: Point, size: u32) -> Command
+    ensures { λ r. ⌜ r ≡ R.commandFrom kind tool to size ⌝ }
+{
+    match kind {
+        kind::COMMENT => Command::Comment,
+        kind::M48 => Command::M48,
+        kind::METRIC => Command::Metric,
+        kind::INCH => Command::Inch,
+        kind::DECLARE => Command::Declare(tool, size),
+        kind::PERCENT => Command::Percent,
+        kind::G05 => Command::G05,
+        kind::G00 => Command::G00(to),
+        kind::SELECT => Command::Select(tool),
+        kind::HIT => Command::Hit(to),
+        kind::M15 => Command::M15,
+        kind::M16 => Command::M16,
+        kind::G01 => Command::G01(to),
+        kind::G02 => Command::G02(Arc {
+            to: to,
+            radius: size,
+        }),
+        kind::G03 => Command::G03(Arc {
+            to: to,
+            radius: size,
+        }),
+        _ => Command::M30,
+    }
+}
+
+fn command_at(a: &[i32]) -> Command
+    requires { ⌜ (length (now a) ≡ R.rowWidth) × (R.legalCommand (now a) ≡ true) ⌝ }
+    ensures { λ r. ⌜ r ≡ R.commandAt (now (a .entry)) ⌝ }
+{
+    let to = point_at(a, TO);
+    command_of(natural(a, KIND), natural(a, TOOL), to, natural(a, SIZE))
+}
+
+// ---- the state's ten numbers
+
+// Tool 0 is in no set.
+fn legal_first_word(a: &[i32]) -> bool
+    requires { ⌜ length (now a) ≡ R.rowWidth ⌝ }
+    ensures { λ r. ⌜ r ≡ P.legalFirstWord (now (a .entry)) ⌝ }
+{
+    if !within(a, WORDS, 0, MAX_WORD) {
+        return false;
+    }
+    natural(a, WORDS) % 2 == 0
+}
+
+fn legal_words(a: &[i32]) -> bool
+    requires { ⌜ length (now a) ≡ R.rowWidth ⌝ }
+    ensures { λ r. ⌜ r ≡ P.legalWords (now (a .entry)) ⌝ }
+{
+    if !legal_first_word(a) {
+        return false;
+    }
+    if !within(a, WORDS + 1, 0, MAX_WORD) {
+        return false;
+    }
+    if !within(a, WORDS + 2, 0, MAX_WORD) {
+        return false;
+    }
+    within(a, WORDS + 3, 0, MAX_WORD)
+}
+
+fn legal_state(a: &[i32]) -> bool
+    requires { ⌜ length (now a) ≡ R.rowWidth ⌝ }
+    ensures { λ r. ⌜ r ≡ R.legalState (now (a .entry)) ⌝ }
+{
+    if !within(a, PHASE, 0, phase::OVER) {
+        return false;
+    }
+    if !within(a, UNIT, 0, unit::INCH) {
+        return false;
+    }
+    if !within(a, MOTION, 0, motion::TOOL_DOWN) {
+        return false;
+    }
+    if !within(a, SELECTED, 0, MAX_TOOL) {
+        return false;
+    }
+    if !coords(a, AT) {
+        return false;
+    }
+    legal_words(a)
+}
+
+fn tools_at(a: &[i32]) -> Tools
+    requires { ⌜ (length (now a) ≡ R.rowWidth) × (R.legalState (now a) ≡ true) ⌝ }
+    ensures { λ r. ⌜ r ≡ P.toolsAt (now (a .entry)) ⌝ }
+{
+    Tools {
+        a: natural(a, WORDS),
+        b: natural(a, WORDS + 1),
+        c: natural(a, WORDS + 2),
+        d: natural(a, WORDS + 3),
+    }
+}
+
+fn state_at(a: &[i32]) -> State
+    requires { ⌜ (length (now a) ≡ R.rowWidth) × (R.legalState (now a) ≡ true) ⌝ }
+    ensures { λ r. ⌜ r ≡ R.stateAt (now (a .entry)) ⌝ }
+{
+    State {
+        phase: natural(a, PHASE),
+        unit: natural(a, UNIT),
+        motion: natural(a, MOTION),
+        tool: natural(a, SELECTED),
+        at: point_at(a, AT),
+        tools: tools_at(a),
+    }
+}
+
+// ---- a row
+
+fn row_of(a: &[i32]) -> Looked
+    requires { ⌜ length (now a) ≡ R.rowWidth ⌝ }
+    ensures { λ r. ⌜ r ≡ R.lookOf (now (a .entry)) ⌝ }
+{
+    if !legal_command(a) {
+        return Looked::Bad;
+    }
+    if !legal_state(a) {
+        return Looked::Bad;
+    }
+    Looked::Holds(command_at(a), state_at(a))
+}
+
+/// The row that numbers are. Too few or too many are none.
+pub fn look(a: &[i32]) -> Looked
+    ensures { λ r. ⌜ r ≡ S.looked (now (a .entry)) ⌝ }
+{
+    if a.len() != ROW_WIDTH {
+        return Looked::Bad;
+    }
+    row_of(a)
+}
+
+// ---- a row's numbers
+
+// No row in range has a number over the largest signed one. Such a number is written as that one, which lies in no
+// field's range.
+fn signed(n: u32) -> i32
+    ensures { λ r. ⌜ r ≡ pos (S.capped n) ⌝ }
+{
+    if MAX_SIGNED < n {
+        return MAX_SIGNED as i32;
+    }
+    n as i32
+}
+
+fn five(kind: u32, tool: u32, to: Point, size: u32) -> [i32; 5]
+    ensures { λ r. ⌜ r ≡ R.fiveOf (S.capped kind) (S.capped tool) (to .x) (to .y) (S.capped size) ⌝ }
+{
+    [signed(kind), signed(tool), to.x, to.y, signed(size)]
+}
+
+/// The command's five.
+pub fn command_numbers(c: Command) -> [i32; 5]
+    ensures { λ r. ⌜ r ≡ R.commandNumbers (S.cappedCommand c) ⌝ }
+{
+    let none = Point { x: 0, y: 0 };
+    match c {
+        Command::Comment => five(kind::COMMENT, 0, none, 0),
+        Command::M48 => five(kind::M48, 0, none, 0),
+        Command::Metric => five(kind::METRIC, 0, none, 0),
+        Command::Inch => five(kind::INCH, 0, none, 0),
+        Command::Declare(tool, diameter) => five(kind::DECLARE, tool, none, diameter),
+        Command::Percent => five(kind::PERCENT, 0, none, 0),
+        Command::G05 => five(kind::G05, 0, none, 0),
+        Command::G00(to) => five(kind::G00, 0, to, 0),
+        Command::Select(tool) => five(kind::SELECT, tool, none, 0),
+        Command::Hit(to) => five(kind::HIT, 0, to, 0),
+        Command::M15 => five(kind::M15, 0, none, 0),
+        Command::M16 => five(kind::M16, 0, none, 0),
+        Command::G01(to) => five(kind::G01, 0, to, 0),
+        Command::G02(arc) => five(kind::G02, 0, arc.to, arc.radius),
+        Command::G03(arc) => five(kind::G03, 0, arc.to, arc.radius),
+        Command::M30 => five(kind::M30, 0, none, 0),
+    }
+}
+
+/// The state's ten.
+pub fn state_numbers(s: State) -> [i32; 10]
+    ensures { λ r. ⌜ r ≡ R.stateNumbers (S.cappedState s) ⌝ }
+{
+    let at = s.at;
+    let tools = s.tools;
+    [
+        signed(s.phase),
+        signed(s.unit),
+        signed(s.motion),
+        signed(s.tool),
+        at.x,
+        at.y,
+        signed(tools.a),
+        signed(tools.b),
+        signed(tools.c),
+        signed(tools.d),
+    ]
+}

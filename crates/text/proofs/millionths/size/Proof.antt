@@ -1,0 +1,14 @@
+-- Its distance to 0.
+use mathlib.Core.Path.{ap, _∙_}
+use borrow.Author.Needs.{needs}
+use lib.IntN.{natAbs}
+use mir.Facts.{toZ-ofZ}
+use Rattle.text.proofs.Signs.{from-zero}
+use Rattle.text.proofs.millionths.size.Statement.{statement}
+use Rattle.text.proofs.millionths.size.Tie as tie
+
+returns : tie.Need-returns
+returns c = from-zero (c .before .args .x) (c .distance .ensures .0) ∙ ap natAbs (toZ-ofZ (c .before .fits .x))
+
+pub size-spec : {M : Type 1} → statement M
+size-spec = tie.close (tie.spec (λ c κs. search needs) (λ c. search needs) returns)

@@ -1,0 +1,14 @@
+-- One store and the place after it, or there is no room.
+use borrow.Author.Needs.{needs}
+use Rattle.text.proofs.Wrote.{wrote-byte, wrote-past}
+use Rattle.text.proofs.parts.put_byte.Statement.{statement}
+use Rattle.text.proofs.parts.put_byte.Tie as tie
+
+returns : tie.Need-returns
+returns c = wrote-byte (c .if1 .taken)
+
+returns-2 : tie.Need-returns-2
+returns-2 c = wrote-past _ (c .if1 .left)
+
+pub put-byte-spec : {M : Type 1} → statement M
+put-byte-spec = tie.close (tie.spec (λ c. search needs) (λ c. search needs) (λ c. search needs) returns returns-2)

@@ -1,0 +1,136 @@
+// Numbers of millionths as text: how long it is, and its bytes.
+ghost use mathlib.Core.Path.{_≡_};
+ghost use Prim.Native.Nat.{_^_, _≤_, _<_};
+ghost use lib.ListN.{length};
+ghost use lib.IntN.{natAbs};
+ghost use Rattle.rules.specs.Writing.{widthOf, placesOf, fractionText, numberText, coordinateText};
+ghost use Rattle.text.specs.Wrote.{Wrote};
+use crate::digits::put_digits;
+use crate::parts::put_byte;
+
+const MILLION: u32 = 1000000;
+
+fn power_of_ten(k: usize) -> u32
+    requires { ⌜ k ≤ 6 ⌝ }
+    ensures { λ r. ⌜ (r ≡ 10 ^ k) × (0 < r) ⌝ }
+{
+    match k {
+        0 => 1,
+        1 => 10,
+        2 => 100,
+        3 => 1000,
+        4 => 10000,
+        5 => 100000,
+        _ => 1000000,
+    }
+}
+
+// How many digits a number below 1,000 has.
+fn width(w: u32) -> usize
+    ensures { λ r. ⌜ (r ≡ widthOf w) × (r ≤ 3) ⌝ }
+{
+    if w < 10 {
+        return 1;
+    }
+    if w < 100 {
+        return 2;
+    }
+    3
+}
+
+// How many decimals f millionths need, without trailing zeros.
+fn places(f: u32) -> usize
+    ensures { λ r. ⌜ (r ≡ placesOf f) × (r ≤ 6) ⌝ }
+{
+    if f % 1000000 == 0 {
+        return 0;
+    }
+    if f % 100000 == 0 {
+        return 1;
+    }
+    if f % 10000 == 0 {
+        return 2;
+    }
+    if f % 1000 == 0 {
+        return 3;
+    }
+    if f % 100 == 0 {
+        return 4;
+    }
+    if f % 10 == 0 {
+        return 5;
+    }
+    6
+}
+
+// A coordinate without its sign, which fits 32 bits.
+fn size(x: i32) -> u32
+    ensures { λ r. ⌜ r ≡ natAbs x ⌝ }
+{
+    points::distance(x, 0) as u32
+}
+
+// ---- lengths
+
+fn fraction_length(f: u32) -> usize
+    ensures { λ r. ⌜ (r ≡ length (fractionText f)) × (r ≤ 7) ⌝ }
+{
+    if f == 0 {
+        return 0;
+    }
+    1 + places(f)
+}
+
+/// Bytes of a number of millionths as it is written.
+pub fn number_length(v: u32) -> usize
+    ensures { λ r. ⌜ (r ≡ length (numberText v)) × (r ≤ 10) ⌝ }
+{
+    width(v / MILLION) + fraction_length(v % MILLION)
+}
+
+/// Bytes of a coordinate as it is written.
+pub fn coordinate_length(x: i32) -> usize
+    ensures { λ r. ⌜ (r ≡ length (coordinateText x)) × (r ≤ 11) ⌝ }
+{
+    let n = number_length(size(x));
+    if x < 0 {
+        return 1 + n;
+    }
+    n
+}
+
+// ---- bytes
+
+// No point for a whole number.
+fn put_fraction(b: &mut [u8], at: usize, millionths: u32) -> usize
+    ensures { λ r. ⌜ Wrote (now (b .entry)) at (fractionText millionths) (now (b .exit)) r ⌝ }
+{
+    if millionths == 0 {
+        return at;
+    }
+    let d = places(millionths);
+    let q = power_of_ten(6 - d);
+    let decimals = put_byte(b, at, b'.');
+    put_digits(b, decimals, d, (millionths / q) as u64)
+}
+
+/// A number of millionths: its whole part, and its decimals without trailing zeros.
+pub fn put_number(b: &mut [u8], at: usize, v: u32) -> usize
+    ensures { λ r. ⌜ Wrote (now (b .entry)) at (numberText v) (now (b .exit)) r ⌝ }
+{
+    let w = v / MILLION;
+    let point = put_digits(b, at, width(w), w as u64);
+    put_fraction(b, point, v % MILLION)
+}
+
+/// The same with a minus where negative.
+pub fn put_coordinate(b: &mut [u8], at: usize, x: i32) -> usize
+    ensures { λ r. ⌜ Wrote (now (b .entry)) at (coordinateText x) (now (b .exit)) r ⌝ }
+{
+    let m = size(x);
+    if x < 0 {
+        let digits = put_byte(b, at, b'-');
+        return put_number(b, digits, m);
+    }
+    put_number(b, at, m)
+}
