@@ -20,10 +20,6 @@ use Rattle.text.proofs.Decimals.{decimal-short}
 pub from-zero : (x : ℤ) {m : ℕ} → m ≡ natAbs (toZ w32 (ofZ w32 x) -ℤ pos 0) → m ≡ natAbs (toZ w32 (ofZ w32 x))
 from-zero x e = e ∙ ap natAbs (+ℤ-idr (toZ w32 (ofZ w32 x)))
 
--- a number that is read back
-pub read-back : (x : ℤ) → mag x < 2147483648 → toZ w32 (ofZ w32 x) ≡ x
-read-back x h = toZ-ofZ (record { sfits = h })
-
 pub record Signed (text : ℤ → List ℕ) (whole : ℕ → List ℕ) : Type 0 where
   pub plain : (n : ℕ) → text (pos n) ≡ whole n
   pub minus : (n : ℕ) → text (negsuc n) ≡ bytes "-" ++ whole (suc n)

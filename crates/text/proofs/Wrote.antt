@@ -5,7 +5,7 @@ use Prim.Native.Nat.{ℕ, _+_, _-_, _<_, _≤_}
 use native.Mathlib.Omega.{arith}
 use native.Mathlib.Nat.{add-zero}
 use lib.ListN.{length, set, length-append}
-use lib.Seq.{take-nil, take-take}
+use lib.Seq.{take-nil}
 use Rattle.lists.specs.Put.{putAt, fitting, putIn}
 use Rattle.lists.proofs.Put.{put-none, put-one, fitting-all, fitting-past, fitting-append, put-in-length, put-in-more}
 use Rattle.text.specs.Wrote.{Wrote}
@@ -31,9 +31,6 @@ module _ {b b′ : List ℕ} {at r : ℕ} where
   -- texts of which the same part has room are written alike
   pub wrote-same : {x : List ℕ} (y : List ℕ) → fitting b at x ≡ fitting b at y → Wrote b at x b′ r → Wrote b at y b′ r
   wrote-same {x} y e w = wrote-fit y (fitting b at x) (sym e) (w .bytes) (w .end)
-
-  pub wrote-part : (x : List ℕ) → Wrote b at (fitting b at x) b′ r → Wrote b at x b′ r
-  wrote-part x w = wrote-same x (take-take (length b - at) (length b - at) x (omega arith)) w
 
   -- where there is room for all
   pub wrote-all : {x : List ℕ} → at + length x ≤ length b → Wrote b at x b′ r → (b′ ≡ putAt b at x) × (r ≡ at + length x)

@@ -1,29 +1,14 @@
 // Numbers of millionths as text: how long it is, and its bytes.
 ghost use mathlib.Core.Path.{_≡_};
-ghost use Prim.Native.Nat.{_^_, _≤_, _<_};
+ghost use Prim.Native.Nat.{_+_, _%_, _≤_, _<_};
 ghost use lib.ListN.{length};
 ghost use lib.IntN.{natAbs};
-ghost use Rattle.rules.specs.Writing.{widthOf, placesOf, fractionText, numberText, coordinateText};
+ghost use Rattle.rules.specs.Writing.{lastDigits, widthOf, placesOf, fractionText, numberText, coordinateText};
 ghost use Rattle.text.specs.Wrote.{Wrote};
-use crate::digits::put_digits;
 use crate::parts::put_byte;
+use crate::parts::put_word;
 
 const MILLION: u32 = 1000000;
-
-fn power_of_ten(k: usize) -> u32
-    requires { ⌜ k ≤ 6 ⌝ }
-    ensures { λ r. ⌜ (r ≡ 10 ^ k) × (0 < r) ⌝ }
-{
-    match k {
-        0 => 1,
-        1 => 10,
-        2 => 100,
-        3 => 1000,
-        4 => 10000,
-        5 => 100000,
-        _ => 1000000,
-    }
-}
 
 // How many digits a number below 1,000 has.
 fn width(w: u32) -> usize
@@ -101,25 +86,51 @@ pub fn coordinate_length(x: i32) -> usize
 
 // ---- bytes
 
-// No point for a whole number.
+// The last digit of n.
+fn digit(n: u32) -> u8
+    ensures { λ r. ⌜ r ≡ 48 + n % 10 ⌝ }
+{
+    (48 + n % 10) as u8
+}
+
+// The digits before the point, three at most.
+fn put_whole(b: &mut [u8], at: usize, w: u32) -> usize
+    ensures { λ r. ⌜ Wrote (now (b .entry)) at (lastDigits (widthOf w) w) (now (b .exit)) r ⌝ }
+{
+    let ones = digit(w);
+    if w < 10 {
+        return put_byte(b, at, ones);
+    }
+    let tens = digit(w / 10);
+    if w < 100 {
+        return put_word(b, at, &[tens, ones]);
+    }
+    put_word(b, at, &[digit(w / 100), tens, ones])
+}
+
+// No point for a whole number. The decimals come out first to last, and end where nothing is left.
 fn put_fraction(b: &mut [u8], at: usize, millionths: u32) -> usize
+    requires { ⌜ millionths < 1000000 ⌝ }
     ensures { λ r. ⌜ Wrote (now (b .entry)) at (fractionText millionths) (now (b .exit)) r ⌝ }
 {
     if millionths == 0 {
         return at;
     }
-    let d = places(millionths);
-    let q = power_of_ten(6 - d);
-    let decimals = put_byte(b, at, b'.');
-    put_digits(b, decimals, d, (millionths / q) as u64)
+    let mut end = put_byte(b, at, b'.');
+    let mut rest = millionths;
+    while 0 < rest {
+        let tenfold = 10 * rest;
+        end = put_byte(b, end, digit(tenfold / MILLION));
+        rest = tenfold % MILLION;
+    }
+    end
 }
 
 /// A number of millionths: its whole part, and its decimals without trailing zeros.
 pub fn put_number(b: &mut [u8], at: usize, v: u32) -> usize
     ensures { λ r. ⌜ Wrote (now (b .entry)) at (numberText v) (now (b .exit)) r ⌝ }
 {
-    let w = v / MILLION;
-    let point = put_digits(b, at, width(w), w as u64);
+    let point = put_whole(b, at, v / MILLION);
     put_fraction(b, point, v % MILLION)
 }
 

@@ -1,9 +1,8 @@
 // Bytes and words.
 ghost use mathlib.Core.List.{[], _∷_};
-ghost use Prim.Native.Nat.{_+_, _≤_};
-ghost use lib.ListN.{length};
 ghost use Rattle.text.specs.Wrote.{Wrote};
 
+/// One byte.
 pub fn put_byte(b: &mut [u8], at: usize, v: u8) -> usize
     ensures { λ r. ⌜ Wrote (now (b .entry)) at (v ∷ []) (now (b .exit)) r ⌝ }
 {
@@ -14,28 +13,15 @@ pub fn put_byte(b: &mut [u8], at: usize, v: u8) -> usize
     at
 }
 
-// A word for which there is room.
-fn copy_word(b: &mut [u8], at: usize, word: &[u8]) -> usize
-    requires { ⌜ at + length (now word) ≤ length (now b) ⌝ }
-    ensures { λ r. ⌜ Wrote (now (b .entry)) at (now (word .entry)) (now (b .exit)) r ⌝ }
-{
-    let mut i = 0;
-    while i < word.len() {
-        b[at + i] = word[i];
-        i += 1;
-    }
-    at + i
-}
-
+/// A word, byte by byte: one that stands in the code is then stored from there, and not first built in memory.
 pub fn put_word(b: &mut [u8], at: usize, word: &[u8]) -> usize
     ensures { λ r. ⌜ Wrote (now (b .entry)) at (now (word .entry)) (now (b .exit)) r ⌝ }
 {
-    if b.len() < at {
-        return at;
+    let mut end = at;
+    let mut i = 0;
+    while i < word.len() {
+        end = put_byte(b, end, word[i]);
+        i += 1;
     }
-    let room = b.len() - at;
-    if room < word.len() {
-        return copy_word(b, at, &word[..room]);
-    }
-    copy_word(b, at, word)
+    end
 }

@@ -19,6 +19,7 @@ fn digit_count(n: u64) -> usize
     count
 }
 
+/// A number in decimal.
 pub fn put_decimal(b: &mut [u8], at: usize, n: u64) -> usize
     ensures { λ r. ⌜ Wrote (now (b .entry)) at (decimal n) (now (b .exit)) r ⌝ }
 {

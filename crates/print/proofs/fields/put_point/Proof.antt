@@ -1,7 +1,7 @@
 -- Two coordinates, each read back from the struct.
 use borrow.Author.Needs.{needs}
 use Rattle.print.proofs.Tabs.{wrote-fields}
-use Rattle.text.proofs.Signs.{read-back}
+use Rattle.points.proofs.Signed.{read-back}
 use Rattle.print.proofs.fields.put_point.Statement.{statement}
 use Rattle.print.proofs.fields.put_point.Tie as tie
 

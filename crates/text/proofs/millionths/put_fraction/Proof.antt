@@ -1,36 +1,62 @@
--- Nothing for a whole number, else the point and then the decimals.
-use borrow.Author.Needs.{needs}
+-- Nothing for a whole number, else the point and then the decimals. The invariant: whoever writes the decimals of what is left has
+-- written all. The measure: how many there are.
+use mathlib.Core.Path.{_∙_}
+use Prim.Native.Nat.{_<_}
 use native.Mathlib.Omega.{arith}
-use native.Mathlib.Nat.{div-le-self}
-use Rattle.text.proofs.Numbers.{fraction-whole, fraction-part}
-use Rattle.text.proofs.Wrote.{wrote-nothing, wrote-more}
+use borrow.Author.Needs.{needs}
+use Rattle.rules.specs.Writing.{placesOf}
+use Rattle.text.proofs.Numbers.{decimals, fraction-whole, fraction-part, places-turn, decimals-turn, decimals-end}
+use Rattle.text.proofs.Wrote.{wrote-length, wrote-nothing, wrote-more, Rest, rest-turn, rest-length, rest-end}
 use Rattle.text.proofs.millionths.put_fraction.Statement.{statement}
 use Rattle.text.proofs.millionths.put_fraction.Tie as tie
 
-returns : tie.Need-returns
+abbrev Inv-loop : tie.InvT-loop
+Inv-loop b₀ at millionths end₀ rest₀ b end rest = (rest < 1000000) × Rest b₀ end₀ (decimals millionths) b end (decimals rest)
+
+abbrev μ-loop : tie.MeasureT-loop
+μ-loop b₀ at millionths end₀ rest₀ b end rest = placesOf rest
+
+returns : tie.Need-returns Inv-loop μ-loop
 returns c = rw (fraction-whole _ (c .if1 .taken)) wrote-nothing
 
-cast-put-digits : tie.Need-cast-put-digits
-cast-put-digits c =
-    let t = c .before .before .before .before .before in
-    omega (arith, div-le-self (t .before .before .before .before .args .millionths) (t .power-of-ten .result))
+loop-holds : tie.Need-loop-holds Inv-loop μ-loop
+loop-holds c = (omega arith, λ _ _ w. w)
 
-returns-2 : tie.Need-returns-2
+mul-tenfold : tie.Need-mul-tenfold Inv-loop μ-loop
+mul-tenfold c = omega arith
+
+loop-less : tie.Need-loop-less Inv-loop μ-loop
+loop-less c = let l = c .before .before .before .before .before .before .loop in omega (arith, places-turn (l .rest) (omega arith) (l .inv .0))
+
+loop-again : tie.Need-loop-again Inv-loop μ-loop
+loop-again c =
+    let t = c .before .before .before .before .before in
+    let l = t .before .loop in
+    let w = rw (c .before .before .before .digit .ensures) at (c .before .before .put-byte2 .ensures) in
+    (omega arith, rest-turn _ (l .inv .1) _ (decimals-turn (l .rest) (t .loop-test .taken) (l .inv .0)) w)
+
+same-length : tie.Need-same-length Inv-loop μ-loop
+same-length c = rest-length _ (c .before .loop .inv .1) ∙ wrote-length (c .before .before .before .before .put-byte .ensures)
+
+returns-2 : tie.Need-returns-2 Inv-loop μ-loop
 returns-2 c =
-    let t = c .before .before .before .before .before .before .before .before in
-    rw (fraction-part _ _ _ (t .before .before .if1 .left) (t .before .places .ensures .0) (t .power-of-ten .ensures .0)) (search wrote-more)
+    let l = c .before .loop in
+    let t = c .before .before .before .before in
+    rw (fraction-part _ (t .before .before .if1 .left)) (wrote-more (t .put-byte .ensures) (rest-end _ (l .inv .1) (decimals-end _ (c .loop-test .left))))
 
 pub put-fraction-spec : {M : Type 1} → statement M
 put-fraction-spec =
     tie.close
     (tie.spec
+    Inv-loop
+    μ-loop
     returns
     (λ c κs. search needs)
-    (λ c. search needs)
+    loop-holds
+    mul-tenfold
     (λ c κs. search needs)
     (λ c κs. search needs)
-    (λ c. search needs)
-    cast-put-digits
-    (λ c κs. search needs)
-    (λ c. search needs)
+    loop-less
+    loop-again
+    same-length
     returns-2)

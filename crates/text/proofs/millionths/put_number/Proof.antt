@@ -7,17 +7,7 @@ use Rattle.text.proofs.millionths.put_number.Tie as tie
 
 returns : tie.Need-returns
 unfolding numberText
-returns c =
-    let t = c .before .before .before .before .before .before in
-    wrote-more (rw (t .before .width .ensures .0) at (t .put-digits .ensures)) (c .before .before .put-fraction .ensures)
+returns c = search wrote-more
 
 pub put-number-spec : {M : Type 1} → statement M
-put-number-spec =
-    tie.close
-    (tie.spec
-    (λ c κs. search needs)
-    (λ c. search needs)
-    (λ c κs. search needs)
-    (λ c κs. search needs)
-    (λ c. search needs)
-    returns)
+put-number-spec = tie.close (tie.spec (λ c κs. search needs) (λ c κs. search needs) (λ c. search needs) returns)

@@ -4,7 +4,7 @@ use native.Mathlib.Omega.{arith}
 use borrow.Author.Needs.{needs}
 use lib.ListN.{length}
 use Rattle.rules.specs.Writing.{coordinateText}
-use Rattle.text.proofs.Signs.{read-back}
+use Rattle.points.proofs.Signed.{read-back}
 use Rattle.writer.proofs.Lengths.{point-length}
 use Rattle.writer.proofs.lines.point_length.Statement.{statement}
 use Rattle.writer.proofs.lines.point_length.Tie as tie

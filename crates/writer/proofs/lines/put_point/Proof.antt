@@ -1,7 +1,7 @@
 -- Two letters, each with its coordinate, read back from the struct.
 use borrow.Author.Needs.{needs}
 use Rattle.rules.specs.Writing.{pointText}
-use Rattle.text.proofs.Signs.{read-back}
+use Rattle.points.proofs.Signed.{read-back}
 use Rattle.text.proofs.Wrote.{wrote-more}
 use Rattle.writer.proofs.lines.put_point.Statement.{statement}
 use Rattle.writer.proofs.lines.put_point.Tie as tie
