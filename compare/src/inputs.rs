@@ -444,14 +444,19 @@ pub fn valid_file(lines: usize, random: &mut Random) -> File {
     }
     texts.push("M30".into());
 
+    let ends = line_ends(texts.len(), random);
+    File { lines: texts.into_iter().map(String::into_bytes).collect(), ends }
+}
+
+/// Ends for so many lines: all with a CR, some, or none.
+fn line_ends(lines: usize, random: &mut Random) -> Vec<&'static [u8]> {
     let style = random.below(4);
-    let ends = texts.iter().map(|_| match style {
+    let end = |_| match style {
         0 => &b"\r\n"[..],
         1 if random.one_in(2) => b"\r\n",
         _ => b"\n",
-    });
-    let ends = ends.collect();
-    File { lines: texts.into_iter().map(String::into_bytes).collect(), ends }
+    };
+    (0..lines).map(end).collect()
 }
 
 // ------------------------------------------------------------------ damage
@@ -476,7 +481,7 @@ pub fn change_bytes(text: &mut Vec<u8>, random: &mut Random) {
     }
 }
 
-/// The file with some line of its kind damaged, or its lines shifted.
+/// The file with its lines shifted, or with one of them damaged.
 fn change_lines(file: &mut File, random: &mut Random) {
     let count = file.lines.len();
     if count == 0 {
@@ -490,48 +495,15 @@ fn change_lines(file: &mut File, random: &mut Random) {
             file.lines.remove(at);
             file.ends.remove(at);
         }
-        2 => {
-            let text = file.lines[at].clone();
-            file.insert(at, text);
-        }
-        3 => {
-            let text = file.lines[other].clone();
-            file.insert(at, text);
-        }
-        4 => file.lines[at] = any_command(random).into_bytes(),
-        5 => file.insert(at, any_command(random).into_bytes()),
-        6 => file.lines[at] = odd_line(random),
-        7 => file.insert(at, odd_line(random)),
-        8 => change_bytes(&mut file.lines[at], random),
-        9 => {
+        2 => file.insert(at, file.lines[at].clone()),
+        3 => file.insert(at, file.lines[other].clone()),
+        4 => file.insert(at, any_command(random).into_bytes()),
+        5 => file.insert(at, odd_line(random)),
+        6 => {
             file.ends[at] =
                 *random.pick(&[&b""[..], b"\r", b"\r\r\n", b"\n\r", b"\n\n", b"\r\n\r\n"])
         }
-        10 => {
-            // A forbidden byte in the line.
-            let byte = *random.pick(&[0u8, 9, 13, 31, 127, 128, 255]);
-            let place = random.below(file.lines[at].len() + 1);
-            file.lines[at].insert(place, byte);
-        }
-        11 => {
-            // The line made long: 256 bytes, 257, or more.
-            let length = *random.pick(&[255, 256, 256, 257, 257, 258, 400]);
-            let byte = *random.pick(b"00 x\0");
-            let place = match file.lines[at].iter().position(|byte| byte.is_ascii_digit()) {
-                Some(place) if random.one_in(2) => place,
-                _ => file.lines[at].len(),
-            };
-            while file.lines[at].len() < length {
-                file.lines[at].insert(place, byte);
-            }
-        }
-        12 => {
-            worsen_number(&mut file.lines[at], random);
-            if random.one_in(4) {
-                change_bytes(&mut file.lines[at], random);
-            }
-        }
-        _ => {
+        7 => {
             // Something after the end.
             let text = match random.below(3) {
                 0 => Vec::new(),
@@ -540,6 +512,41 @@ fn change_lines(file: &mut File, random: &mut Random) {
             };
             file.insert(count, text);
         }
+        _ => damage_line(&mut file.lines[at], random),
+    }
+}
+
+/// The line replaced, or some of it made bad.
+fn damage_line(line: &mut Vec<u8>, random: &mut Random) {
+    match random.below(6) {
+        0 => *line = any_command(random).into_bytes(),
+        1 => *line = odd_line(random),
+        2 => change_bytes(line, random),
+        3 => {
+            // A forbidden byte in the line.
+            let byte = *random.pick(&[0u8, 9, 13, 31, 127, 128, 255]);
+            line.insert(random.below(line.len() + 1), byte);
+        }
+        4 => lengthen(line, random),
+        _ => {
+            worsen_number(line, random);
+            if random.one_in(4) {
+                change_bytes(line, random);
+            }
+        }
+    }
+}
+
+/// The line made long, at its first digit or at its end: 256 bytes, 257, or more.
+fn lengthen(line: &mut Vec<u8>, random: &mut Random) {
+    let length = *random.pick(&[255, 256, 256, 257, 257, 258, 400]);
+    let byte = *random.pick(b"00 x\0");
+    let place = match line.iter().position(|byte| byte.is_ascii_digit()) {
+        Some(place) if random.one_in(2) => place,
+        _ => line.len(),
+    };
+    while line.len() < length {
+        line.insert(place, byte);
     }
 }
 

@@ -322,37 +322,7 @@ impl Comparison {
 
     /// Counts of rows and line numbers that don't fit the table.
     fn odd_sizes(&mut self, table: &[i32], rows: usize) {
-        let counts = [
-            0,
-            1,
-            rows - 1,
-            rows,
-            rows,
-            rows,
-            rows + 1,
-            MAX_LINES,
-            MAX_LINES + 1,
-            1 << 32,
-            (1 << 32) + rows,
-            usize::MAX / ROW,
-            usize::MAX / ROW + 1,
-            usize::MAX,
-        ];
-        let lines = [
-            0,
-            1,
-            rows,
-            rows + 1,
-            rows + 2,
-            MAX_LINES,
-            MAX_LINES + 1,
-            1 << 32,
-            (1 << 32) + 1,
-            1 << 63,
-            usize::MAX / ROW + 1,
-            usize::MAX - 1,
-            usize::MAX,
-        ];
+        let (counts, lines) = (odd_counts(rows), odd_lines(rows));
         let texts: [&[u8]; 8] = [b";", b"\n", b"\r", b"", b"T1\r\n", b"X1Y1\r", b"M30", b"\n\xff"];
         for _ in 0..8 {
             let n = *self.random.pick(&counts);
@@ -361,7 +331,7 @@ impl Comparison {
             // Lent as it is, cut, or with more rows than any table has.
             let length = match self.random.below(6) {
                 0..=2 => table.len(),
-                3 => table.len() - *self.random.pick(&[1, 14, 15, table.len()]),
+                3 => table.len() - *self.random.pick(&[1, ROW - 1, ROW, table.len()]),
                 _ => (MAX_LINES + 2) * ROW - self.random.below(32),
             };
             let mut lent = table.to_vec();
@@ -540,6 +510,23 @@ impl Comparison {
              G03X6Y2A2\nM16\nM30",
         );
         let table = self.read_valid(&file);
+        self.edits_a_to_l(&file, &table);
+        for line in 0..17 {
+            for length in [0, 6, 7, 8] {
+                self.hole(&table, 15, line, length);
+            }
+        }
+        self.writes(&table, 15);
+        for (line, text) in [(7, "T1\r"), (7, "T1\n"), (4, "T01C1"), (7, ";")] {
+            self.edit(&table, 15, line, text.as_bytes());
+        }
+        self.all_small_texts(&table);
+        self.all_edges(&table);
+        self.all_tools();
+    }
+
+    /// The paper's edits of its file, and what it says of them.
+    fn edits_a_to_l(&mut self, file: &File, table: &[i32]) {
         let cases: [(usize, &str, Answer); 12] = [
             (3, "T01C0.6", (0, 3)),
             (3, "T02C0.5", (10, 7)),
@@ -555,24 +542,12 @@ impl Comparison {
             (12, "G01X4Y0", (0, 12)),
         ];
         for (line, text, expected) in cases {
-            let (answer, _) = self.edit(&table, 15, line, text.as_bytes());
+            let (answer, _) = self.edit(table, 15, line, text.as_bytes());
             if answer != expected {
                 self.differs(&format!("edit {line} {text} of the bench file answered {answer:?}"));
             }
-            self.demand_3(&file, line, text.as_bytes());
+            self.demand_3(file, line, text.as_bytes());
         }
-        for line in 0..17 {
-            for length in [0, 6, 7, 8] {
-                self.hole(&table, 15, line, length);
-            }
-        }
-        self.writes(&table, 15);
-        for (line, text) in [(7, "T1\r"), (7, "T1\n"), (4, "T01C1"), (7, ";")] {
-            self.edit(&table, 15, line, text.as_bytes());
-        }
-        self.all_small_texts(&table);
-        self.all_edges(&table);
-        self.all_tools();
     }
 
     /// Every short text, and every short spelling of each number, as an edit.
@@ -688,13 +663,33 @@ fn rows(table: &[i32]) -> String {
 
 // ---------------------------------------------------------------- promises
 
+/// Counts of rows about a table's own, about the limit, and beyond what all its numbers can be.
+fn odd_counts(rows: usize) -> Vec<usize> {
+    let near = [0, 1, rows - 1, rows, rows, rows, rows + 1];
+    let far = [
+        MAX_LINES,
+        MAX_LINES + 1,
+        1 << 32,
+        (1 << 32) + rows,
+        usize::MAX / ROW,
+        usize::MAX / ROW + 1,
+        usize::MAX,
+    ];
+    [near, far].concat()
+}
+
+/// Line numbers about a table's own, about the limit, and beyond what fits in 32 bits.
+fn odd_lines(rows: usize) -> Vec<usize> {
+    let near = [0, 1, rows, rows + 1, rows + 2, MAX_LINES, MAX_LINES + 1];
+    let far = [1 << 32, (1 << 32) + 1, 1 << 63, usize::MAX / ROW + 1, usize::MAX - 1, usize::MAX];
+    [&near[..], &far].concat()
+}
+
 fn state(table: &[i32], line: usize) -> &[i32] {
     &table[line * ROW - 10..line * ROW]
 }
 
-/// Demand 3: an edit answers and leaves what reading the edited file afresh
-/// would; its meeting line is the first where the states agree, or the last;
-/// no row outside the span changes.
+/// Demand 3, of one side: an edit answers and leaves what reading the edited file afresh would.
 fn edit_is_reading<L: Library>(file: &File, line: usize, text: &[u8]) -> Result<(), String> {
     let mut changed = file.clone();
     changed.lines[line - 1] = text.to_vec();
@@ -710,48 +705,45 @@ fn edit_is_reading<L: Library>(file: &File, line: usize, text: &[u8]) -> Result<
     let mut fresh = old.clone();
     let reading = L::read(&changed, &mut fresh);
 
-    let say = |what: &str| {
-        Err(format!(
-            "{what}: edit answers {answer:?}, reading {reading:?}, line {line}, text \"{}\", file \"{}\"",
-            text.escape_ascii(),
-            file.bytes().escape_ascii()
-        ))
-    };
-    if first != (0, n as u32) {
-        return say("the file isn't read");
-    }
-    if text.contains(&b'\n') || text.contains(&b'\r') {
-        return if answer == (17, 0) && edited == old {
-            Ok(())
-        } else {
-            say("a line's end in the text")
-        };
-    }
-    if edited != fresh {
-        return say("the tables differ");
-    }
-    if answer.0 != 0 {
-        return if answer == reading && edited == old {
-            Ok(())
-        } else {
-            say("the refusals differ")
-        };
-    }
-    if reading != (0, n as u32) {
-        return say("the verdicts differ");
-    }
-    let agree = |at: &usize| state(&old, *at) == state(&edited, *at);
-    let meeting = (line..=n).find(agree).unwrap_or(n);
-    if answer.1 as usize != meeting {
-        return say("the meeting line is another");
-    }
-    let outside = edited[..(line - 1) * ROW] == old[..(line - 1) * ROW]
-        && edited[meeting * ROW..] == old[meeting * ROW..];
-    if outside {
-        Ok(())
+    let fault = if first != (0, n as u32) {
+        Some("the file isn't read")
+    } else if text.contains(&b'\n') || text.contains(&b'\r') {
+        (answer != (17, 0) || edited != old).then_some("a line's end in the text")
+    } else if edited != fresh {
+        Some("the tables differ")
+    } else if answer.0 != 0 {
+        (answer != reading || edited != old).then_some("the refusals differ")
+    } else if reading != (0, n as u32) {
+        Some("the verdicts differ")
     } else {
-        say("rows outside the span changed")
+        span_fault(&old, &edited, n, line, answer.1 as usize)
+    };
+    fault.map_or(Ok(()), |what| {
+        let (text, file) = (text.escape_ascii(), file.bytes());
+        let file = file.escape_ascii();
+        Err(format!(
+            "{what}: edit answers {answer:?}, reading {reading:?}, line {line}, text \"{text}\", file \"{file}\""
+        ))
+    })
+}
+
+/// What is wrong with an accepted edit's span: its meeting line is the first where the states agree,
+/// or the last, and no row outside it changes.
+fn span_fault(
+    old: &[i32],
+    edited: &[i32],
+    n: usize,
+    line: usize,
+    answered: usize,
+) -> Option<&'static str> {
+    let agree = |at: &usize| state(old, *at) == state(edited, *at);
+    let meeting = (line..=n).find(agree).unwrap_or(n);
+    if answered != meeting {
+        return Some("the meeting line is another");
     }
+    let same = |rows: Range<usize>| old[rows.clone()] == edited[rows];
+    let outside = same(0..(line - 1) * ROW) && same(meeting * ROW..old.len());
+    (!outside).then_some("rows outside the span changed")
 }
 
 /// Writing, then reading, gives the table without its comment rows.

@@ -7,9 +7,9 @@ const BENCH_LINES: usize = 15;
 const PATTERN: i32 = -77;
 
 fn verdict(file: &[u8]) -> (u32, u32) {
-    let mut table = vec![PATTERN; 15 * 1_001];
+    let mut table = vec![PATTERN; ROW * (MAX_LINES + 1)];
     let answer = read(file, &mut table);
-    let untouched = if answer.0 == 0 { answer.1 as usize * 15 } else { 0 };
+    let untouched = if answer.0 == 0 { answer.1 as usize * ROW } else { 0 };
     assert!(table[untouched..].iter().all(|&number| number == PATTERN));
     answer
 }
@@ -30,13 +30,18 @@ fn header(line: &str) -> (u32, u32) {
 }
 
 fn table_of(file: &str) -> Vec<i32> {
-    let mut table = vec![0; 15 * file.lines().count()];
+    let mut table = vec![0; ROW * file.lines().count()];
     assert_eq!(read(file.as_bytes(), &mut table), (0, file.lines().count() as u32));
     table
 }
 
 fn bench() -> Vec<i32> {
     table_of(BENCH)
+}
+
+/// The row of a line.
+fn row(table: &[i32], line: usize) -> &[i32] {
+    &table[(line - 1) * ROW..line * ROW]
 }
 
 fn replaced(line: usize, text: &str) -> String {
@@ -62,11 +67,11 @@ fn edited(line: usize, text: &str) -> (u32, u32) {
     }
     assert_eq!(read_answer, (0, BENCH_LINES as u32));
     let meeting = (line..=BENCH_LINES)
-        .find(|&at| table[at * 15 - 10..at * 15] == before[at * 15 - 10..at * 15])
+        .find(|&at| row(&table, at)[COMMAND..] == row(&before, at)[COMMAND..])
         .unwrap_or(BENCH_LINES);
     assert_eq!(answer.1 as usize, meeting);
-    assert_eq!(table[..(line - 1) * 15], before[..(line - 1) * 15]);
-    assert_eq!(table[meeting * 15..], before[meeting * 15..]);
+    assert_eq!(table[..(line - 1) * ROW], before[..(line - 1) * ROW]);
+    assert_eq!(table[meeting * ROW..], before[meeting * ROW..]);
     answer
 }
 
@@ -88,14 +93,14 @@ fn bench_file_prints_as_the_paper_shows() {
 fn bench_file_reads_to_its_rows() {
     let table = bench();
     let word = (1 << 1) | (1 << 7);
-    assert_eq!(table[..15], [1, 0, 0, 0, 0, 1, 0, 0, 0, 0, 0, 0, 0, 0, 0]);
-    assert_eq!(table[30..45], [4, 1, 0, 0, 500_000, 2, 1, 0, 0, 0, 0, 2, 0, 0, 0]);
-    assert_eq!(table[105..120], [9, 0, 2_000_000, -3_500_000, 0, 3, 1, 1, 1, 0, 0, word, 0, 0, 0]);
+    assert_eq!(row(&table, 1), [1, 0, 0, 0, 0, 1, 0, 0, 0, 0, 0, 0, 0, 0, 0]);
+    assert_eq!(row(&table, 3), [4, 1, 0, 0, 500_000, 2, 1, 0, 0, 0, 0, 2, 0, 0, 0]);
+    assert_eq!(row(&table, 8), [9, 0, 2_000_000, -3_500_000, 0, 3, 1, 1, 1, 0, 0, word, 0, 0, 0]);
     assert_eq!(
-        table[180..195],
+        row(&table, 13),
         [14, 0, 6_000_000, 2_000_000, 2_000_000, 3, 1, 3, 7, 6_000_000, 2_000_000, word, 0, 0, 0]
     );
-    assert_eq!(table[210..], [15, 0, 0, 0, 0, 4, 1, 2, 7, 6_000_000, 2_000_000, word, 0, 0, 0]);
+    assert_eq!(row(&table, 15), [15, 0, 0, 0, 0, 4, 1, 2, 7, 6_000_000, 2_000_000, word, 0, 0, 0]);
 }
 
 #[test]
@@ -255,60 +260,63 @@ fn reading_refuses_bytes() {
     assert_eq!(verdict(b"; ~\n"), (14, 2));
 }
 
+/// Texts that have no command's form.
+const NO_FORM: [&str; 50] = [
+    "",
+    " ",
+    "M4",
+    "M480",
+    "m48",
+    "METRI",
+    "METRIC ",
+    "INCHES",
+    "%%",
+    "G5",
+    "G05X1Y1",
+    "T",
+    "TX",
+    "T1C",
+    "T01C",
+    "T01C-1",
+    "T01C+1",
+    "T01C.",
+    "T01C1.1.1",
+    "T01C1 ",
+    "X",
+    "X1",
+    "XY",
+    "X1Y",
+    "XY1",
+    "X.Y1",
+    "X1Y.",
+    "X--1Y1",
+    "X+-1Y1",
+    "X1Y1A1",
+    "X1.2.3Y1",
+    "X1Y1 ",
+    " X1Y1",
+    "Y1X1",
+    "X1000Yq",
+    "G00",
+    "G00X1",
+    "G04X1Y1",
+    "G01X1Y1A1",
+    "G02X1Y1",
+    "G02X1Y1A",
+    "G03X1Y1A-1",
+    "G03X1Y1A+1",
+    "G03X1Y1A1A1",
+    "; ;",
+    ";;",
+    "M15;",
+    "M",
+    "G",
+    "G0",
+];
+
 #[test]
 fn reading_refuses_forms() {
-    for line in [
-        "",
-        " ",
-        "M4",
-        "M480",
-        "m48",
-        "METRI",
-        "METRIC ",
-        "INCHES",
-        "%%",
-        "G5",
-        "G05X1Y1",
-        "T",
-        "TX",
-        "T1C",
-        "T01C",
-        "T01C-1",
-        "T01C+1",
-        "T01C.",
-        "T01C1.1.1",
-        "T01C1 ",
-        "X",
-        "X1",
-        "XY",
-        "X1Y",
-        "XY1",
-        "X.Y1",
-        "X1Y.",
-        "X--1Y1",
-        "X+-1Y1",
-        "X1Y1A1",
-        "X1.2.3Y1",
-        "X1Y1 ",
-        " X1Y1",
-        "Y1X1",
-        "X1000Yq",
-        "G00",
-        "G00X1",
-        "G04X1Y1",
-        "G01X1Y1A1",
-        "G02X1Y1",
-        "G02X1Y1A",
-        "G03X1Y1A-1",
-        "G03X1Y1A+1",
-        "G03X1Y1A1A1",
-        "; ;",
-        ";;",
-        "M15;",
-        "M",
-        "G",
-        "G0",
-    ] {
+    for line in NO_FORM {
         assert_eq!(body(line), (5, 7), "{line}");
     }
 }
@@ -413,7 +421,7 @@ fn reading_refuses_impossible_arcs() {
 
 #[test]
 fn reading_refuses_a_short_table_last() {
-    let mut table = vec![PATTERN; 15 * BENCH_LINES - 1];
+    let mut table = vec![PATTERN; ROW * BENCH_LINES - 1];
     assert_eq!(read(BENCH.as_bytes(), &mut table), (15, 0));
     assert!(table.iter().all(|&number| number == PATTERN));
     assert_eq!(read(BENCH.replace("M30\n", "").as_bytes(), &mut []), (14, 15));
@@ -424,7 +432,7 @@ fn reading_refuses_a_short_table_last() {
 fn editing_refuses_sizes_lines_and_ends() {
     let good = bench();
     let mut table = good.clone();
-    for n in [0, BENCH_LINES + 1, 1_000, 1_001, usize::MAX, usize::MAX / 15 + 1] {
+    for n in [0, BENCH_LINES + 1, 1_000, 1_001, usize::MAX, usize::MAX / ROW + 1] {
         assert_eq!(edit(&mut table, n, 0, b"\n"), (18, 0));
     }
     for line in [0, 16, 1_000, usize::MAX, 1 << 32] {
@@ -456,9 +464,9 @@ fn editing_refuses_as_reading_does() {
 
 #[test]
 fn editing_looks_at_the_rows_of_its_span_only() {
-    let bad_at = |row: usize| {
+    let bad_at = |line: usize| {
         let mut table = bench();
-        table[row * 15 - 10] = 5;
+        table[(line - 1) * ROW + COMMAND] = 5;
         table
     };
     // The row before, the edited row, and rows on the way.
@@ -481,14 +489,20 @@ fn editing_a_bad_table_may_end_by_agreement() {
     assert_eq!(edit(&mut table, 8, 8, b"X2Y3"), (0, 8));
     assert_eq!(edit(&mut table, 8, 8, b"T07"), (14, 9));
     // A selected tool outside the declared set is in range, and a hit asks no more.
-    table[7 * 15 - 7] = 50;
+    table[6 * ROW + 8] = 50;
     assert_eq!(edit(&mut table, 8, 8, b"X2Y4"), (14, 9));
 }
 
+/// Whether the arc's row, line 13 of the bench file, is one with this number in its place.
+fn is_row_with(field: usize, value: i32) -> bool {
+    let mut row = row(&bench(), 13).to_vec();
+    row[field] = value;
+    decode(&row).is_some()
+}
+
 #[test]
-fn every_number_of_a_row_has_its_range() {
-    let row = bench()[12 * 15..13 * 15].to_vec();
-    let outside: [(usize, &[i32]); 15] = [
+fn no_number_of_a_row_is_outside_its_range() {
+    let outside: [(usize, &[i32]); ROW] = [
         (0, &[-1, 16, 0, 9]),
         (1, &[1, -1, 100]),
         (2, &[MAX + 1, MIN - 1, i32::MIN, i32::MAX]),
@@ -507,11 +521,13 @@ fn every_number_of_a_row_has_its_range() {
     ];
     for (field, values) in outside {
         for &value in values {
-            let mut row = row.clone();
-            row[field] = value;
-            assert_eq!(decode(&row), None, "{field} {value}");
+            assert!(!is_row_with(field, value), "{field} {value}");
         }
     }
+}
+
+#[test]
+fn every_number_of_a_row_has_its_range() {
     let inside: [(usize, &[i32]); 10] = [
         (2, &[MAX, MIN]),
         (4, &[1, MAX]),
@@ -526,9 +542,7 @@ fn every_number_of_a_row_has_its_range() {
     ];
     for (field, values) in inside {
         for &value in values {
-            let mut row = row.clone();
-            row[field] = value;
-            assert!(decode(&row).is_some(), "{field} {value}");
+            assert!(is_row_with(field, value), "{field} {value}");
         }
     }
 }
@@ -542,25 +556,28 @@ fn holes_are_found_or_refused() {
     };
     let none = vec![PATTERN; 7];
     assert_eq!(
-        ask(&table, 15, 8, 7),
+        ask(&table, BENCH_LINES, 8, 7),
         ((0, 1), vec![9, 1, 2_000_000, -3_500_000, 2_000_000, -3_500_000, 0])
     );
-    assert_eq!(ask(&table, 15, 12, 8), ((0, 1), vec![12, 7, 0, 0, 4_000_000, 0, 0, PATTERN]));
-    assert_eq!(ask(&table, 15, 1, 7), ((0, 0), none.clone()));
-    assert_eq!(ask(&table, 15, 11, 7), ((0, 0), none));
-    assert_eq!(ask(&table, 15, 8, 6), ((15, 0), vec![PATTERN; 6]));
-    assert_eq!(ask(&table, 15, 1, 0), ((15, 0), vec![]));
-    assert_eq!(ask(&table, 15, 0, 0), ((16, 0), vec![]));
-    assert_eq!(ask(&table, 15, 16, 0), ((16, 0), vec![]));
+    assert_eq!(
+        ask(&table, BENCH_LINES, 12, 8),
+        ((0, 1), vec![12, 7, 0, 0, 4_000_000, 0, 0, PATTERN])
+    );
+    assert_eq!(ask(&table, BENCH_LINES, 1, 7), ((0, 0), none.clone()));
+    assert_eq!(ask(&table, BENCH_LINES, 11, 7), ((0, 0), none));
+    assert_eq!(ask(&table, BENCH_LINES, 8, 6), ((15, 0), vec![PATTERN; 6]));
+    assert_eq!(ask(&table, BENCH_LINES, 1, 0), ((15, 0), vec![]));
+    assert_eq!(ask(&table, BENCH_LINES, 0, 0), ((16, 0), vec![]));
+    assert_eq!(ask(&table, BENCH_LINES, 16, 0), ((16, 0), vec![]));
     assert_eq!(ask(&table, 0, 0, 0), ((18, 0), vec![]));
     assert_eq!(ask(&table, 16, 0, 0), ((18, 0), vec![]));
     assert_eq!(ask(&table, usize::MAX, usize::MAX, 0), ((18, 0), vec![]));
     let mut bad = table.clone();
-    bad[11 * 15 - 1] = -1;
-    assert_eq!(ask(&bad, 15, 12, 0), ((18, 11), vec![]));
-    assert_eq!(ask(&bad, 15, 11, 0), ((18, 11), vec![]));
-    assert_eq!(ask(&bad, 15, 13, 7).0, (0, 1));
-    assert_eq!(ask(&bad, 15, 10, 7).0, (0, 0));
+    bad[11 * ROW - 1] = -1;
+    assert_eq!(ask(&bad, BENCH_LINES, 12, 0), ((18, 11), vec![]));
+    assert_eq!(ask(&bad, BENCH_LINES, 11, 0), ((18, 11), vec![]));
+    assert_eq!(ask(&bad, BENCH_LINES, 13, 7).0, (0, 1));
+    assert_eq!(ask(&bad, BENCH_LINES, 10, 7).0, (0, 0));
 }
 
 #[test]
@@ -573,14 +590,14 @@ fn writing_refuses_bad_tables_before_short_texts() {
     for (line, field, value) in [(1, 5, 2), (3, 1, 0), (7, 8, 7), (8, 9, 1), (13, 4, 1), (15, 5, 3)]
     {
         let mut table = good.clone();
-        table[(line - 1) * 15 + field] = value;
-        assert_eq!(write(&table, 15, &mut []), (18, line as u32));
+        table[(line - 1) * ROW + field] = value;
+        assert_eq!(write(&table, BENCH_LINES, &mut []), (18, line as u32));
     }
     let length = BENCH.len() + 1;
     let mut text = vec![b'~'; length - 1];
-    assert_eq!(write(&good, 15, &mut text), (15, 0));
+    assert_eq!(write(&good, BENCH_LINES, &mut text), (15, 0));
     assert!(text.iter().all(|&byte| byte == b'~'));
-    assert_eq!(write(&good, 15, &mut vec![0; length]), (0, length as u32));
+    assert_eq!(write(&good, BENCH_LINES, &mut vec![0; length]), (0, length as u32));
 }
 
 #[test]
@@ -591,27 +608,27 @@ fn written_numbers_have_no_spare_digits() {
                     G02X-999.999999Y-899.999999A999.999999\nM16\nG05\nX10.01Y-0.000001\nM30\n";
     let table = table_of(file);
     let mut text = vec![0; expected.len()];
-    assert_eq!(write(&table, 15, &mut text), (0, expected.len() as u32));
+    assert_eq!(write(&table, file.lines().count(), &mut text), (0, expected.len() as u32));
     assert_eq!(String::from_utf8(text).unwrap(), expected);
-    let kept: Vec<i32> = table.chunks(15).filter(|row| row[0] != 0).flatten().copied().collect();
+    let kept: Vec<i32> = table.chunks(ROW).filter(|row| row[0] != 0).flatten().copied().collect();
     assert_eq!(table_of(expected), kept);
 }
 
 #[test]
 fn diameters_are_found_or_refused() {
     let table = bench();
-    assert_eq!(diameter(&table, 15, 1), (0, 500_000));
-    assert_eq!(diameter(&table, 15, 7), (0, 1_250_000));
-    assert_eq!(diameter(&table, 15, 2), (10, 0));
+    assert_eq!(diameter(&table, BENCH_LINES, 1), (0, 500_000));
+    assert_eq!(diameter(&table, BENCH_LINES, 7), (0, 1_250_000));
+    assert_eq!(diameter(&table, BENCH_LINES, 2), (10, 0));
     for tool in [0, 100, u32::MAX] {
-        assert_eq!(diameter(&table, 15, tool), (7, 0));
+        assert_eq!(diameter(&table, BENCH_LINES, tool), (7, 0));
     }
     for n in [0, 16, 1_001, usize::MAX] {
         assert_eq!(diameter(&table, n, 0), (18, 0));
     }
     let mut bad = table.clone();
-    bad[3 * 15 + 14] = -1;
-    assert_eq!(diameter(&bad, 15, 1), (0, 500_000));
-    assert_eq!(diameter(&bad, 15, 7), (18, 4));
-    assert_eq!(diameter(&bad, 15, 2), (18, 4));
+    bad[4 * ROW - 1] = -1;
+    assert_eq!(diameter(&bad, BENCH_LINES, 1), (0, 500_000));
+    assert_eq!(diameter(&bad, BENCH_LINES, 7), (18, 4));
+    assert_eq!(diameter(&bad, BENCH_LINES, 2), (18, 4));
 }
