@@ -23,7 +23,7 @@ abbrev μ-loop : tie.MeasureT-loop
 loop-holds : tie.Need-loop-holds Inv-loop μ-loop
 loop-holds c = (rw (c .new .ensures), omega arith, omega arith)
 
--- /work/h1/target/rlib/rules.rlib/interface/lang/src/lib.rt:36:33
+-- the line of a bad row, i + 1, fits
 add-t11 : tie.Need-add-t11 Inv-loop μ-loop
 add-t11 c = omega arith
 
