@@ -25,9 +25,10 @@ use Rattle.rules.specs.Ranges.{StateOk, CommandOk}
 use Rattle.rules.specs.Editing.{rerunFrom, meetingOf}
 use Rattle.laws.proofs.Keeps.{keeps}
 use Rattle.laws.proofs.Entries.{entries-length, table-one}
-use Rattle.table.specs.Table.{lookAt, putRow}
+use Rattle.table.specs.Table.{lookAt}
 use Rattle.table.proofs.Looks.{Found, look-found, entries-cons}
-use Rattle.table.proofs.Puts.{put-size, put-rest, put-row, put-next}
+use Rattle.put.specs.PutRow.{putRow}
+use Rattle.put.proofs.Puts.{put-size, put-rest, put-row, put-next}
 use Rattle.editor.specs.Parts.{Entries, rowsToMeet, editedTo, Leaves}
 
 pub widen-meeting : (r : Row Command State) (v : Verdict (Span Command State) Refusal) → meetingOf (widen r v) ≡ meetingOf v

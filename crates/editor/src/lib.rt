@@ -87,7 +87,7 @@ fn write_span(table: &mut [i32], n: usize, from: usize, before: State)
                     return;
                 }
                 Next::To(next) => {
-                    table::put(table, i, command, next);
+                    put::row(table, i, command, next);
                     if next.same(stood) {
                         return;
                     }
@@ -112,13 +112,13 @@ fn edit_row(
     ensures { λ r. ⌜ Leaves (now (table .entry)) line (editedTo (entriesOf n (now (table .entry))) line command next old) r (now (table .exit)) ⌝ }
 {
     if next.same(old) {
-        table::put(table, line - 1, command, next);
+        put::row(table, line - 1, command, next);
         return Answer::Done(line);
     }
     match find_meeting(table, n, line, next) {
         Answer::Refused(refusal, at) => Answer::Refused(refusal, at),
         Answer::Done(meeting) => {
-            table::put(table, line - 1, command, next);
+            put::row(table, line - 1, command, next);
             write_span(table, n, line, next);
             Answer::Done(meeting)
         }

@@ -129,7 +129,7 @@ fn try_edit(old: &[i32], n: usize, line: usize, text: &[u8])
     requires { ⌜ 1 ≤ line ⌝ }
 {
     let mut new = [0i32; TABLE_ROOM];
-    table::copy(&mut new, 0, old);
+    put::copy(&mut new, 0, old);
     match editor::edit(&mut new, n, line, text) {
         Answer::Refused(refusal, at) => show::refused(refusal, at),
         Answer::Done(meeting) => {

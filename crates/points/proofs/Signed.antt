@@ -81,8 +81,11 @@ zero-sub-nonneg (negsuc n) e = tt
 
 -- ---- what the machine reads back
 
--- of a number that an i32 holds
-pub read-back : (z : ℤ) → mag z < 2 ^ 31 → toZ w32 (ofZ w32 z) ≡ z
+-- what each use of an i32 tells of it
+abbrev pub Signed : ℤ → Type 0
+Signed z = mag z < 2 ^ 31
+
+pub read-back : (z : ℤ) → Signed z → toZ w32 (ofZ w32 z) ≡ z
 read-back z h = toZ-ofZ (record { sfits = h })
 
 -- of `x as i64`

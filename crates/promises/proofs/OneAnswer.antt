@@ -21,10 +21,10 @@ use Rattle.rules.proofs.State.has_ended.Kinds as state-has-ended-kinds
 use Rattle.rules.proofs.State.has_ended.Reads as state-has-ended-reads
 use Rattle.rules.proofs.State.same.Kinds as state-same-kinds
 use Rattle.rules.proofs.State.same.Reads as state-same-reads
-use Rattle.rules.proofs.Command.hole.Kinds as command-hole-kinds
-use Rattle.rules.proofs.Command.hole.Reads as command-hole-reads
-use Rattle.rules.proofs.Command.declares.Kinds as command-declares-kinds
-use Rattle.rules.proofs.Command.declares.Reads as command-declares-reads
+use Rattle.gives.proofs.hole.Kinds as gives-hole-kinds
+use Rattle.gives.proofs.hole.Reads as gives-hole-reads
+use Rattle.gives.proofs.diameter.Kinds as gives-diameter-kinds
+use Rattle.gives.proofs.diameter.Reads as gives-diameter-reads
 use Rattle.number.proofs.stands.Kinds as number-stands-kinds
 use Rattle.number.proofs.stands.Reads as number-stands-reads
 use Rattle.number.proofs.run_at.Kinds as number-run-at-kinds
@@ -49,10 +49,6 @@ use Rattle.line.proofs.answer.Kinds as line-answer-kinds
 use Rattle.line.proofs.answer.Reads as line-answer-reads
 use Rattle.row.proofs.look.Kinds as row-look-kinds
 use Rattle.row.proofs.look.Reads as row-look-reads
-use Rattle.row.proofs.command_numbers.Kinds as row-command-numbers-kinds
-use Rattle.row.proofs.command_numbers.Reads as row-command-numbers-reads
-use Rattle.row.proofs.state_numbers.Kinds as row-state-numbers-kinds
-use Rattle.row.proofs.state_numbers.Reads as row-state-numbers-reads
 use Rattle.table.proofs.sizes_fit.Kinds as table-sizes-fit-kinds
 use Rattle.table.proofs.sizes_fit.Reads as table-sizes-fit-reads
 use Rattle.table.proofs.is_line.Kinds as table-is-line-kinds
@@ -63,10 +59,10 @@ use Rattle.table.proofs.following.Kinds as table-following-kinds
 use Rattle.table.proofs.following.Reads as table-following-reads
 use Rattle.table.proofs.state_before.Kinds as table-state-before-kinds
 use Rattle.table.proofs.state_before.Reads as table-state-before-reads
-use Rattle.table.proofs.copy.Kinds as table-copy-kinds
-use Rattle.table.proofs.copy.Reads as table-copy-reads
-use Rattle.table.proofs.put.Kinds as table-put-kinds
-use Rattle.table.proofs.put.Reads as table-put-reads
+use Rattle.put.proofs.copy.Kinds as put-copy-kinds
+use Rattle.put.proofs.copy.Reads as put-copy-reads
+use Rattle.put.proofs.row.Kinds as put-row-kinds
+use Rattle.put.proofs.row.Reads as put-row-reads
 use Rattle.text.proofs.put_byte.Kinds as text-put-byte-kinds
 use Rattle.text.proofs.put_byte.Reads as text-put-byte-reads
 use Rattle.text.proofs.put_word.Kinds as text-put-word-kinds
@@ -85,6 +81,10 @@ use Rattle.text.proofs.number_length.Kinds as text-number-length-kinds
 use Rattle.text.proofs.number_length.Reads as text-number-length-reads
 use Rattle.text.proofs.coordinate_length.Kinds as text-coordinate-length-kinds
 use Rattle.text.proofs.coordinate_length.Reads as text-coordinate-length-reads
+use Rattle.spell.proofs.line_length.Kinds as spell-line-length-kinds
+use Rattle.spell.proofs.line_length.Reads as spell-line-length-reads
+use Rattle.spell.proofs.put_line.Kinds as spell-put-line-kinds
+use Rattle.spell.proofs.put_line.Reads as spell-put-line-reads
 use Rattle.reader.proofs.read.Kinds as reader-read-kinds
 use Rattle.reader.proofs.read.Reads as reader-read-reads
 use Rattle.query.proofs.hole.Kinds as query-hole-kinds
@@ -152,11 +152,11 @@ state-has-ended κs a x y e f p q = same p q
 pub state-same : OneAnswer 0 state-same-kinds.ps state-same-kinds.r state-same-reads.Post
 state-same κs a x y e f p q = same p q
 
-pub command-hole : OneAnswer 0 command-hole-kinds.ps command-hole-kinds.r command-hole-reads.Post
-command-hole κs a x y e f p q = same p q
+pub gives-hole : OneAnswer 0 gives-hole-kinds.ps gives-hole-kinds.r gives-hole-reads.Post
+gives-hole κs a x y e f p q = same p q
 
-pub command-declares : OneAnswer 0 command-declares-kinds.ps command-declares-kinds.r command-declares-reads.Post
-command-declares κs a x y e f p q = same p q
+pub gives-diameter : OneAnswer 0 gives-diameter-kinds.ps gives-diameter-kinds.r gives-diameter-reads.Post
+gives-diameter κs a x y e f p q = same p q
 
 -- ---- crate number
 
@@ -202,13 +202,7 @@ line-answer κs a x y e f p q = same p q
 pub row-look : OneAnswer 1 row-look-kinds.ps row-look-kinds.r row-look-reads.Post
 row-look κs a x y e f p q = same p q
 
-pub row-command-numbers : OneAnswer 0 row-command-numbers-kinds.ps row-command-numbers-kinds.r row-command-numbers-reads.Post
-row-command-numbers κs a x y e f p q = same p q
-
-pub row-state-numbers : OneAnswer 0 row-state-numbers-kinds.ps row-state-numbers-kinds.r row-state-numbers-reads.Post
-row-state-numbers κs a x y e f p q = same p q
-
--- ---- crate table; copy and put answer nothing
+-- ---- crate table
 
 pub table-sizes-fit : OneAnswer 1 table-sizes-fit-kinds.ps table-sizes-fit-kinds.r table-sizes-fit-reads.Post
 table-sizes-fit κs a x y e f p q = same p q
@@ -225,11 +219,13 @@ table-following κs a x y e f p q = same p q
 pub table-state-before : OneAnswer 1 table-state-before-kinds.ps table-state-before-kinds.r table-state-before-reads.Post
 table-state-before κs a x y e f p q = same p q
 
-pub table-copy : OneOutcome 2 table-copy-kinds.ps table-copy-kinds.r table-copy-reads.Post (λ κs e. e .0 .now)
-table-copy κs a x y e f p q = (refl, same p q)
+-- ---- crate put, which answers nothing
 
-pub table-put : OneOutcome 1 table-put-kinds.ps table-put-kinds.r table-put-reads.Post (λ κs e. e .0 .now)
-table-put κs a x y e f p q = (refl, same p q)
+pub put-copy : OneOutcome 2 put-copy-kinds.ps put-copy-kinds.r put-copy-reads.Post (λ κs e. e .0 .now)
+put-copy κs a x y e f p q = (refl, same p q)
+
+pub put-row : OneOutcome 1 put-row-kinds.ps put-row-kinds.r put-row-reads.Post (λ κs e. e .0 .now)
+put-row κs a x y e f p q = (refl, same p q)
 
 -- ---- crate text: the place after, and the bytes
 
@@ -259,6 +255,14 @@ text-number-length κs a x y e f p q = same (p .0) (q .0)
 
 pub text-coordinate-length : OneAnswer 0 text-coordinate-length-kinds.ps text-coordinate-length-kinds.r text-coordinate-length-reads.Post
 text-coordinate-length κs a x y e f p q = same (p .0) (q .0)
+
+-- ---- crate spell
+
+pub spell-line-length : OneAnswer 0 spell-line-length-kinds.ps spell-line-length-kinds.r spell-line-length-reads.Post
+spell-line-length κs a x y e f p q = same (p .0) (q .0)
+
+pub spell-put-line : OneOutcome 1 spell-put-line-kinds.ps spell-put-line-kinds.r spell-put-line-reads.Post (λ κs e. e .0 .now)
+spell-put-line κs a x y e f p q = (same (p .end) (q .end), same (p .bytes) (q .bytes))
 
 -- ---- crate reader
 

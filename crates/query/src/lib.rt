@@ -31,7 +31,7 @@ pub fn hole(table: &[i32], n: usize, line: usize) -> HoleAnswer
             Looked::Bad => HoleAnswer::Refused(BAD_TABLE, line),
             Looked::Holds(command, state) => {
                 let from = before.at;
-                command.hole(from, state)
+                gives::hole(command, from, state)
             }
         },
     }
@@ -48,7 +48,7 @@ fn find_diameter(table: &[i32], n: usize, tool: u32) -> DiameterAnswer
             Looked::Bad => {
                 return DiameterAnswer::Refused(BAD_TABLE, i + 1);
             }
-            Looked::Holds(command, _) => match command.declares(tool) {
+            Looked::Holds(command, _) => match gives::diameter(command, tool) {
                 Declared::Diameter(d) => {
                     return DiameterAnswer::Is(d);
                 }

@@ -31,8 +31,8 @@ use Rattle.laws.proofs.InRange.{read-ok}
 use Rattle.line.specs.Line.{findLF, lineOfBytes}
 use Rattle.line.proofs.Lines.{lines-at, lines-none}
 use Rattle.line.proofs.Texts.{too-many}
-use Rattle.table.specs.Table.{putRow}
-use Rattle.table.proofs.Puts.{put-next}
+use Rattle.put.specs.PutRow.{putRow}
+use Rattle.put.proofs.Puts.{put-next}
 use Rattle.reader.specs.Parts.{toldFrom, leftFrom, LinesRead}
 
 -- ---- what a line says

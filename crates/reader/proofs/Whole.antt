@@ -19,7 +19,7 @@ use Rattle.rules.specs.Lines.{linesOf}
 use Rattle.rules.specs.Rows.{rowWidth, tableNumbers}
 use Rattle.rules.specs.Reading.{Rows, runOf, fileOf, hasRoom, inRoom, withRows, readAnswer, readLeaves}
 use Rattle.laws.proofs.Entries.{table-length}
-use Rattle.table.proofs.Puts.{copied-all}
+use Rattle.put.proofs.Puts.{copied-all}
 use Rattle.reader.specs.Parts.{toldFrom, leftFrom, Block, LinesRead}
 
 abbrev ReadIs : List ℕ → List ℤ → Answer → List ℤ → Type 0

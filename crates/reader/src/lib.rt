@@ -38,7 +38,7 @@ fn read_lines(file: &[u8], rows: &mut [i32]) -> Answer
                 return Answer::Refused(e, n + 1);
             }
             Next::To(next) => {
-                table::put(rows, n, command, next);
+                put::row(rows, n, command, next);
                 state = next;
                 n += 1;
                 at = end + 1;
@@ -68,7 +68,7 @@ pub fn read(file: &[u8], table: &mut [i32]) -> Answer
             if table.len() / ROW_WIDTH < n {
                 return Answer::Refused(NO_ROOM, 0);
             }
-            table::copy(table, 0, &block[..ROW_WIDTH * n]);
+            put::copy(table, 0, &block[..ROW_WIDTH * n]);
             return Answer::Done(n);
         }
     }

@@ -11,18 +11,9 @@ use lib.Signed.{mag, ltZ, leZ, nonNeg}
 use mir.Syntax.{w32}
 use mir.Val.{SFits, Fits, toZ, ofZ}
 use mir.Facts.{fits-natAbs}
-use Rattle.points.proofs.Signed.{read-back}
+use Rattle.points.proofs.Signed.{Signed, not-negative, read-back}
 use Rattle.rules.specs.Numbers.{maxNumber}
 use Rattle.rules.specs.Rows.{within, isCoord}
-use Rattle.row.specs.Row.{maxSigned}
-
--- what each use of a signed number tells of it
-abbrev pub Signed : ℤ → Type 0
-Signed z = mag z < maxSigned + 1
-
--- a list of such numbers, one more at its head, which is known to be x
-pub back∷ : (z : ℤ) {x : ℤ} {xs ys : List ℤ} → Signed z → z ≡ x → xs ≡ ys → toZ w32 (ofZ w32 z) ∷ xs ≡ x ∷ ys
-back∷ z h e f = ap₂ _∷_ (read-back z h ∙ e) f
 
 -- ---- from lo to hi
 
@@ -30,10 +21,6 @@ negative-out : (lo hi : ℕ) (z : ℤ) → ltZ z (pos 0) ≡ true → false ≡ 
 unfolding within
 negative-out lo hi (pos n) e = absurd (omega (arith, ltb-true n 0 e))
 negative-out lo hi (negsuc n) e = refl
-
-not-negative : (z : ℤ) → ltZ z (pos 0) ≡ false → T (nonNeg z)
-not-negative (pos n) e = tt
-not-negative (negsuc n) e = absurd (false≢true (sym e))
 
 low-in : (lo hi : ℕ) (z : ℤ) → ltZ z (pos 0) ≡ false → lo ≤ natAbs z → leb (natAbs z) hi ≡ within lo hi z
 unfolding within

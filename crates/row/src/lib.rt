@@ -1,9 +1,8 @@
-// One row and its numbers: which numbers a row may have, the row that they are, and the numbers of a row.
+// One row in lent numbers: which numbers a row may have, and the row that they are.
 ghost use mathlib.Core.Path.{_≡_};
 ghost use mathlib.Core.Bool.{true, _&&_};
 ghost use Prim.Native.Nat.{_+_, _<_};
 ghost use lib.Dec.{T};
-ghost use lib.IntN.{pos};
 ghost use lib.Signed.{nonNeg};
 ghost use lib.ListN.{length};
 ghost use Rattle.rules.specs.Kinds as Kinds;
@@ -47,9 +46,6 @@ const WORDS: usize = 11;
 
 // The largest number of 25 bits.
 const MAX_WORD: u32 = 33554431;
-
-// The largest signed number.
-const MAX_SIGNED: u32 = 2147483647;
 
 // ---- one number of a row
 
@@ -316,68 +312,4 @@ pub fn look(a: &[i32]) -> Looked
         return Looked::Bad;
     }
     row_of(a)
-}
-
-// ---- a row's numbers
-
-// No row in range has a number over the largest signed one. Such a number is written as that one, which lies in no
-// field's range.
-fn signed(n: u32) -> i32
-    ensures { λ r. ⌜ r ≡ pos (S.capped n) ⌝ }
-{
-    if MAX_SIGNED < n {
-        return MAX_SIGNED as i32;
-    }
-    n as i32
-}
-
-fn five(kind: u32, tool: u32, to: Point, size: u32) -> [i32; 5]
-    ensures { λ r. ⌜ r ≡ R.fiveOf (S.capped kind) (S.capped tool) (to .x) (to .y) (S.capped size) ⌝ }
-{
-    [signed(kind), signed(tool), to.x, to.y, signed(size)]
-}
-
-/// The command's five.
-pub fn command_numbers(c: Command) -> [i32; 5]
-    ensures { λ r. ⌜ r ≡ R.commandNumbers (S.cappedCommand c) ⌝ }
-{
-    let none = Point { x: 0, y: 0 };
-    match c {
-        Command::Comment => five(kind::COMMENT, 0, none, 0),
-        Command::M48 => five(kind::M48, 0, none, 0),
-        Command::Metric => five(kind::METRIC, 0, none, 0),
-        Command::Inch => five(kind::INCH, 0, none, 0),
-        Command::Declare(tool, diameter) => five(kind::DECLARE, tool, none, diameter),
-        Command::Percent => five(kind::PERCENT, 0, none, 0),
-        Command::G05 => five(kind::G05, 0, none, 0),
-        Command::G00(to) => five(kind::G00, 0, to, 0),
-        Command::Select(tool) => five(kind::SELECT, tool, none, 0),
-        Command::Hit(to) => five(kind::HIT, 0, to, 0),
-        Command::M15 => five(kind::M15, 0, none, 0),
-        Command::M16 => five(kind::M16, 0, none, 0),
-        Command::G01(to) => five(kind::G01, 0, to, 0),
-        Command::G02(arc) => five(kind::G02, 0, arc.to, arc.radius),
-        Command::G03(arc) => five(kind::G03, 0, arc.to, arc.radius),
-        Command::M30 => five(kind::M30, 0, none, 0),
-    }
-}
-
-/// The state's ten.
-pub fn state_numbers(s: State) -> [i32; 10]
-    ensures { λ r. ⌜ r ≡ R.stateNumbers (S.cappedState s) ⌝ }
-{
-    let at = s.at;
-    let tools = s.tools;
-    [
-        signed(s.phase),
-        signed(s.unit),
-        signed(s.motion),
-        signed(s.tool),
-        at.x,
-        at.y,
-        signed(tools.a),
-        signed(tools.b),
-        signed(tools.c),
-        signed(tools.d),
-    ]
 }

@@ -1,3 +1,2 @@
 pub mod Same
 pub mod Tests
-pub mod Makes

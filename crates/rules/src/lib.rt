@@ -1,6 +1,5 @@
 // The things that document 01 speaks of, as types, with its sizes and refusals by name. What they mean stands in specs/,
 // a file for each section.
-mod holes;
 pub mod kind;
 pub mod motion;
 pub mod phase;

@@ -1,11 +1,10 @@
--- A table in lent numbers: a row looked at, one that follows, and one put in. `i` counts the rows before it.
+-- A table in lent numbers: a row looked at, and one that follows. `i` counts the rows before it.
 use mathlib.Core.Bool.{cond}
 use mathlib.Core.List.{List}
 use Prim.Native.Nat.{ℕ, _+_, _-_, _*_}
 use lib.Dec.{leb}
 use lib.IntN.{ℤ}
 use lib.ListN.{length, take, drop}
-use Rattle.lists.specs.Put.{putAt}
 use Rattle.runs.specs.Machine.{onOut, Entry}
 use Rattle.rules.specs.declared.Command.{Command}
 use Rattle.rules.specs.declared.State.{State}
@@ -13,7 +12,6 @@ use Rattle.rules.specs.declared.Looked.{Looked}
 use Rattle.rules.specs.declared.Looked.the-variants.{Holds, Bad}
 use Rattle.rules.specs.State.{taken, sameState}
 use Rattle.rules.specs.Rows.{rowWidth, lookOf, entryOf}
-use Rattle.row.specs.Row.{cappedNumbers}
 
 -- the row after i others; past the end there is none
 unfoldable pub lookAt : List ℤ → ℕ → Looked
@@ -27,7 +25,3 @@ rowAt t k = entryOf (lookAt t (k - 1))
 unfoldable pub followed : State → Looked → Looked
 followed p (Holds c s) = onOut (taken p c) (λ _. Bad) (λ q. cond (sameState q s) (Holds c s) Bad)
 followed p Bad = Bad
-
--- the numbers with a row after i others; past the end nothing changes
-unfoldable pub putRow : List ℤ → ℕ → Command → State → List ℤ
-putRow t i c s = cond (leb (rowWidth * i + rowWidth) (length t)) (putAt t (rowWidth * i) (cappedNumbers c s)) t

@@ -1,21 +1,15 @@
-// A table in lent numbers. `i` counts the rows before a row: row i is line i + 1.
+// A table in lent numbers, looked at. `i` counts the rows before a row: row i is line i + 1.
 ghost use mathlib.Core.Path.{_≡_};
-ghost use Prim.Native.Nat.{_+_, _-_, _≤_};
-ghost use lib.ListN.{length};
-ghost use Rattle.lists.specs.Put.{putAt, putIn};
+ghost use Prim.Native.Nat.{_-_};
 ghost use Rattle.rules.specs.Rows as Rows;
 ghost use Rattle.rules.specs.Editing as Editing;
 ghost use Rattle.table.specs.Table as S;
 use rules::Before;
-use rules::Command;
 use rules::Looked;
 use rules::MAX_LINES;
 use rules::Next;
 use rules::ROW_WIDTH;
 use rules::State;
-
-// Where the state's numbers begin in a row.
-const STATE: usize = 5;
 
 // ---- its sizes
 
@@ -85,49 +79,4 @@ pub fn state_before(table: &[i32], line: usize) -> Before
         Looked::Holds(_, state) => Before::From(state),
         Looked::Bad => Before::Bad,
     }
-}
-
-// ---- numbers put into it
-
-// The numbers of `a` from place `at` on, and the rest as it was.
-fn copy_in(table: &mut [i32], at: usize, a: &[i32])
-    requires { ⌜ at + length (now a) ≤ length (now table) ⌝ }
-    ensures { λ _. ⌜ now (table .exit) ≡ putAt (now (table .entry)) at (now (a .entry)) ⌝ }
-{
-    let mut j = 0;
-    while j < a.len() {
-        let v = a[j];
-        table[at + j] = v;
-        j += 1;
-    }
-}
-
-/// The numbers of `a` from place `at` on, as many as there is room for, and the rest as it was.
-pub fn copy(table: &mut [i32], at: usize, a: &[i32])
-    ensures { λ _. ⌜ now (table .exit) ≡ putIn (now (table .entry)) at (now (a .entry)) ⌝ }
-{
-    if table.len() < at {
-        return;
-    }
-    let room = table.len() - at;
-    if room < a.len() {
-        copy_in(table, at, &a[..room]);
-        return;
-    }
-    copy_in(table, at, a);
-}
-
-/// Row i becomes a command and the state after it. Past the end nothing changes.
-pub fn put(table: &mut [i32], i: usize, command: Command, state: State)
-    ensures { λ _. ⌜ now (table .exit) ≡ S.putRow (now (table .entry)) i command state ⌝ }
-{
-    let rows = table.len() / ROW_WIDTH;
-    if rows <= i {
-        return;
-    }
-    let at = ROW_WIDTH * i;
-    let first = row::command_numbers(command);
-    let second = row::state_numbers(state);
-    copy_in(table, at, &first);
-    copy_in(table, at + STATE, &second);
 }

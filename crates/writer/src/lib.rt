@@ -8,16 +8,13 @@ ghost use Rattle.rules.specs.Rows.{rowWidth, entriesOf};
 ghost use Rattle.rules.specs.State.{start};
 ghost use Rattle.rules.specs.Writing.{followFrom, writeAnswer, writeLeaves};
 ghost use Rattle.writer.specs.Walk.{bytesFrom, textOfEntries};
-
-mod lines;
-
-use crate::lines::line_length;
-use crate::lines::put_line;
 use rules::Answer;
 use rules::BAD_TABLE;
 use rules::Looked;
 use rules::NO_ROOM;
 use rules::State;
+use spell::line_length;
+use spell::put_line;
 
 // How many bytes the text of n rows has; each is tested, and so is that the last has ended.
 fn measure(table: &[i32], n: usize) -> Answer

@@ -8,7 +8,7 @@ use Rattle.editor.proofs.edit_row.Tie as tie
 returns : tie.Need-returns
 returns c =
     let x = c .before .before .before .before .before in let a = x .args in let f = x .pre in
-    rw (c .before .put .ensures)
+    rw (c .before .row .ensures)
     (edited-met (a .table .now) (a .n) (a .line) (a .command) (a .next) (a .old) (f .0) (f .1) (f .2) (f .3) (f .4)
     (sym (c .before .before .before .before .same .ensures) ∙ c .before .before .before .if1 .taken))
 
@@ -26,7 +26,7 @@ returns-3 c =
     (sym (c .before .before .before .before .before .before .before .before .before .before .before .before .same .ensures)
     ∙ c .before .before .before .before .before .before .before .before .before .before .before .if1 .left)
     (c .before .before .before .before .before .before .before .before .before .find-meeting .ensures) _
-    (c .before .before .before .before .before .before .before .meeting .given .1) (c .before .before .before .before .put2 .ensures)
+    (c .before .before .before .before .before .before .before .meeting .given .1) (c .before .before .before .before .row2 .ensures)
     (c .before .write-span .ensures)
 
 pub edit-row-spec : {M : Type 1} → statement M

@@ -5,7 +5,7 @@ use native.Mathlib.Omega.{arith}
 use lib.ListN.{length, drop}
 use Rattle.lists.specs.Put.{putAt}
 use Rattle.rules.specs.Rows.{rowWidth, entriesOf, tableNumbers}
-use Rattle.table.proofs.Puts.{put-size}
+use Rattle.put.proofs.Puts.{put-size}
 use Rattle.editor.specs.Parts.{rowsToMeet}
 use Rattle.editor.proofs.Spans.{Writing, write-over, write-bad, write-refused, write-met, write-on}
 use borrow.Author.Needs.{needs}
@@ -44,12 +44,12 @@ returns-2 c =
 
 same-length-3 : tie.Need-same-length-3 Inv-loop μ-loop
 same-length-3 c =
-    ap length (c .before .before .before .put .ensures) ∙ put-size _ _ _ _
+    ap length (c .before .before .before .row .ensures) ∙ put-size _ _ _ _
     ∙ c .before .before .before .before .before .before .before .before .before .before .before .before .before .before .before .loop .inv .same-size
 
 returns-3 : tie.Need-returns-3 Inv-loop μ-loop
 returns-3 c =
-    c .before .before .before .put .ensures
+    c .before .before .before .row .ensures
     ∙ (let l = c .before .before .before .before .before .before .before .before .before .before .before .before .before .before .before in
     write-met _ _ (l .loop .table) _ (l .loop .i) (l .loop .state) (l .before .pre .0) (l .loop .inv)
     (c .before .before .before .before .before .before .before .before .before .before .before .before .before .before .loop-test .taken) _ _
@@ -66,7 +66,7 @@ loop-less c = omega arith
 
 loop-again : tie.Need-loop-again Inv-loop μ-loop
 loop-again c =
-    rw (c .before .before .before .put .ensures)
+    rw (c .before .before .before .row .ensures)
     (let l = c .before .before .before .before .before .before .before .before .before .before .before .before .before .before .before in
     write-on _ _ (l .loop .table) _ (l .loop .i) (l .loop .state) (l .before .pre .0) (l .loop .inv)
     (c .before .before .before .before .before .before .before .before .before .before .before .before .before .before .loop-test .taken) _ _

@@ -40,7 +40,7 @@ returns-2 c =
       entries-cons _ (l .before .args .table .now) (l .loop .i) (c .before .before .before .before .before .before .before .before .loop-test .taken)
           (l .before .pre),
       sym (c .before .before .before .before .before .before .before .look .ensures) ∙ c .before .before .before .before .before .command .given .1,
-      sym (c .before .before .before .declares .ensures) ∙ c .before .d .given .1,
+      sym (c .before .before .before .diameter .ensures) ∙ c .before .d .given .1,
     )
     at (l .loop .inv)
 
@@ -57,7 +57,7 @@ loop-again c =
     rw (
       entries-cons _ (l .before .args .table .now) (l .loop .i) (c .before .before .before .before .before .before .before .loop-test .taken) (l .before .pre),
       sym (c .before .before .before .before .before .before .look .ensures) ∙ c .before .before .before .before .command .given .1,
-      sym (c .before .before .declares .ensures) ∙ c .enum-told2 .given .1,
+      sym (c .before .before .diameter .ensures) ∙ c .enum-told2 .given .1,
     ) at (l .loop .inv)
 
 returns-3 : tie.Need-returns-3 Inv-loop μ-loop

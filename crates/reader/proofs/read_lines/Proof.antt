@@ -73,7 +73,7 @@ loop-again c =
     turn-on _ _ (l .rows) _ (l .n) (l .at) (l .inv) (b .before .loop-test .taken) _ (b .find-lf .ensures)
     (c .before .before .before .before .before .before .before .before .before .before .answer .ensures)
     (c .before .before .before .before .before .before .before .if1 .left) (c .before .before .before .before .before .before .step .ensures) _
-    (c .before .before .before .before .next .given .1) (b .before .before .before .before .before .pre) _ (c .before .put .ensures) (c .before .put .kept .0)
+    (c .before .before .before .before .next .given .1) (b .before .before .before .before .before .pre) _ (c .before .row .ensures) (c .before .row .kept .0)
 
 same-length-3 : tie.Need-same-length-3 Inv-loop μ-loop
 same-length-3 c = c .before .before .before .loop .inv .room
