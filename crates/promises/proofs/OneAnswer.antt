@@ -73,14 +73,14 @@ use Rattle.text.proofs.put_decimal.Kinds as text-put-decimal-kinds
 use Rattle.text.proofs.put_decimal.Reads as text-put-decimal-reads
 use Rattle.text.proofs.put_signed.Kinds as text-put-signed-kinds
 use Rattle.text.proofs.put_signed.Reads as text-put-signed-reads
-use Rattle.text.proofs.put_number.Kinds as text-put-number-kinds
-use Rattle.text.proofs.put_number.Reads as text-put-number-reads
-use Rattle.text.proofs.put_coordinate.Kinds as text-put-coordinate-kinds
-use Rattle.text.proofs.put_coordinate.Reads as text-put-coordinate-reads
-use Rattle.text.proofs.number_length.Kinds as text-number-length-kinds
-use Rattle.text.proofs.number_length.Reads as text-number-length-reads
-use Rattle.text.proofs.coordinate_length.Kinds as text-coordinate-length-kinds
-use Rattle.text.proofs.coordinate_length.Reads as text-coordinate-length-reads
+use Rattle.millionths.proofs.put_number.Kinds as millionths-put-number-kinds
+use Rattle.millionths.proofs.put_number.Reads as millionths-put-number-reads
+use Rattle.millionths.proofs.put_coordinate.Kinds as millionths-put-coordinate-kinds
+use Rattle.millionths.proofs.put_coordinate.Reads as millionths-put-coordinate-reads
+use Rattle.millionths.proofs.number_length.Kinds as millionths-number-length-kinds
+use Rattle.millionths.proofs.number_length.Reads as millionths-number-length-reads
+use Rattle.millionths.proofs.coordinate_length.Kinds as millionths-coordinate-length-kinds
+use Rattle.millionths.proofs.coordinate_length.Reads as millionths-coordinate-length-reads
 use Rattle.spell.proofs.line_length.Kinds as spell-line-length-kinds
 use Rattle.spell.proofs.line_length.Reads as spell-line-length-reads
 use Rattle.spell.proofs.put_line.Kinds as spell-put-line-kinds
@@ -227,7 +227,7 @@ put-copy κs a x y e f p q = (refl, same p q)
 pub put-row : OneOutcome 1 put-row-kinds.ps put-row-kinds.r put-row-reads.Post (λ κs e. e .0 .now)
 put-row κs a x y e f p q = (refl, same p q)
 
--- ---- crate text: the place after, and the bytes
+-- ---- crate text: the place after, and the bytes; so also of millionths and spell
 
 pub text-put-byte : OneOutcome 1 text-put-byte-kinds.ps text-put-byte-kinds.r text-put-byte-reads.Post (λ κs e. e .0 .now)
 text-put-byte κs a x y e f p q = (same (p .end) (q .end), same (p .bytes) (q .bytes))
@@ -244,17 +244,19 @@ text-put-decimal κs a x y e f p q = (same (p .end) (q .end), same (p .bytes) (q
 pub text-put-signed : OneOutcome 1 text-put-signed-kinds.ps text-put-signed-kinds.r text-put-signed-reads.Post (λ κs e. e .0 .now)
 text-put-signed κs a x y e f p q = (same (p .end) (q .end), same (p .bytes) (q .bytes))
 
-pub text-put-number : OneOutcome 1 text-put-number-kinds.ps text-put-number-kinds.r text-put-number-reads.Post (λ κs e. e .0 .now)
-text-put-number κs a x y e f p q = (same (p .end) (q .end), same (p .bytes) (q .bytes))
+-- ---- crate millionths
 
-pub text-put-coordinate : OneOutcome 1 text-put-coordinate-kinds.ps text-put-coordinate-kinds.r text-put-coordinate-reads.Post (λ κs e. e .0 .now)
-text-put-coordinate κs a x y e f p q = (same (p .end) (q .end), same (p .bytes) (q .bytes))
+pub millionths-put-number : OneOutcome 1 millionths-put-number-kinds.ps millionths-put-number-kinds.r millionths-put-number-reads.Post (λ κs e. e .0 .now)
+millionths-put-number κs a x y e f p q = (same (p .end) (q .end), same (p .bytes) (q .bytes))
 
-pub text-number-length : OneAnswer 0 text-number-length-kinds.ps text-number-length-kinds.r text-number-length-reads.Post
-text-number-length κs a x y e f p q = same (p .0) (q .0)
+pub millionths-put-coordinate : OneOutcome 1 millionths-put-coordinate-kinds.ps millionths-put-coordinate-kinds.r millionths-put-coordinate-reads.Post (λ κs e. e .0 .now)
+millionths-put-coordinate κs a x y e f p q = (same (p .end) (q .end), same (p .bytes) (q .bytes))
 
-pub text-coordinate-length : OneAnswer 0 text-coordinate-length-kinds.ps text-coordinate-length-kinds.r text-coordinate-length-reads.Post
-text-coordinate-length κs a x y e f p q = same (p .0) (q .0)
+pub millionths-number-length : OneAnswer 0 millionths-number-length-kinds.ps millionths-number-length-kinds.r millionths-number-length-reads.Post
+millionths-number-length κs a x y e f p q = same (p .0) (q .0)
+
+pub millionths-coordinate-length : OneAnswer 0 millionths-coordinate-length-kinds.ps millionths-coordinate-length-kinds.r millionths-coordinate-length-reads.Post
+millionths-coordinate-length κs a x y e f p q = same (p .0) (q .0)
 
 -- ---- crate spell
 

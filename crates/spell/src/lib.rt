@@ -1,14 +1,14 @@
 // A command's line as text: how long it is, and its bytes. Each function that writes does so from place `at` on, as crate
 // text has it, and hands back the place after its text.
+use millionths::coordinate_length;
+use millionths::number_length;
+use millionths::put_coordinate;
+use millionths::put_number;
 use points::Arc;
 use points::Point;
 use rules::Command;
-use text::coordinate_length;
-use text::number_length;
 use text::put_byte;
-use text::put_coordinate;
 use text::put_digits;
-use text::put_number;
 use text::put_word;
 ghost use mathlib.Core.Path.{_≡_};
 ghost use mathlib.Core.List.{_++_};

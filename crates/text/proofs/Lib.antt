@@ -1,5 +1,4 @@
 pub mod Decimals
 pub mod LastDigits
-pub mod Numbers
 pub mod Signs
 pub mod Wrote

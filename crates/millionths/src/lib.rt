@@ -1,12 +1,12 @@
-// Numbers of millionths as text: how long it is, and its bytes.
+// Numbers of millionths as text: how long it is, and its bytes, from place `at` on as crate text has it.
 ghost use mathlib.Core.Path.{_≡_};
 ghost use Prim.Native.Nat.{_+_, _%_, _≤_, _<_};
 ghost use lib.ListN.{length};
 ghost use lib.IntN.{natAbs};
 ghost use Rattle.rules.specs.Writing.{lastDigits, widthOf, placesOf, fractionText, numberText, coordinateText};
 ghost use Rattle.text.specs.Wrote.{Wrote};
-use crate::parts::put_byte;
-use crate::parts::put_word;
+use text::put_byte;
+use text::put_word;
 
 const MILLION: u32 = 1000000;
 

@@ -5,10 +5,10 @@ use Prim.Native.Nat.{_<_}
 use native.Mathlib.Omega.{arith}
 use borrow.Author.Needs.{needs}
 use Rattle.rules.specs.Writing.{placesOf}
-use Rattle.text.proofs.Numbers.{decimals, fraction-whole, fraction-part, places-turn, decimals-turn, decimals-end}
+use Rattle.millionths.proofs.Numbers.{decimals, fraction-whole, fraction-part, places-turn, decimals-turn, decimals-end}
 use Rattle.text.proofs.Wrote.{wrote-length, wrote-nothing, wrote-more, Rest, rest-turn, rest-length, rest-end}
-use Rattle.text.proofs.millionths.put_fraction.Statement.{statement}
-use Rattle.text.proofs.millionths.put_fraction.Tie as tie
+use Rattle.millionths.proofs.put_fraction.Statement.{statement}
+use Rattle.millionths.proofs.put_fraction.Tie as tie
 
 abbrev Inv-loop : tie.InvT-loop
 Inv-loop b₀ at millionths end₀ rest₀ b end rest = (rest < 1000000) × Rest b₀ end₀ (decimals millionths) b end (decimals rest)

@@ -2,8 +2,8 @@
 use borrow.Author.Needs.{needs}
 use borrow.Author.Tests.{lt-ltb, le-ltb}
 use Rattle.rules.specs.Writing.{widthOf}
-use Rattle.text.proofs.millionths.width.Statement.{statement}
-use Rattle.text.proofs.millionths.width.Tie as tie
+use Rattle.millionths.proofs.width.Statement.{statement}
+use Rattle.millionths.proofs.width.Tie as tie
 
 returns : tie.Need-returns
 unfolding widthOf

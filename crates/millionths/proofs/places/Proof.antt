@@ -2,8 +2,8 @@
 use borrow.Author.Needs.{needs}
 use borrow.Author.Tests.{eq-eqb, ne-eqb}
 use Rattle.rules.specs.Writing.{placesOf}
-use Rattle.text.proofs.millionths.places.Statement.{statement}
-use Rattle.text.proofs.millionths.places.Tie as tie
+use Rattle.millionths.proofs.places.Statement.{statement}
+use Rattle.millionths.proofs.places.Tie as tie
 
 returns : tie.Need-returns
 unfolding placesOf

@@ -2,10 +2,10 @@
 use native.Mathlib.Omega.{arith}
 use mathlib.Core.Path.{ap}
 use lib.ListN.{length}
-use Rattle.text.proofs.Numbers.{fraction-whole, fraction-part-length}
+use Rattle.millionths.proofs.Numbers.{fraction-whole, fraction-part-length}
 use borrow.Author.Needs.{needs}
-use Rattle.text.proofs.millionths.fraction_length.Statement.{statement}
-use Rattle.text.proofs.millionths.fraction_length.Tie as tie
+use Rattle.millionths.proofs.fraction_length.Statement.{statement}
+use Rattle.millionths.proofs.fraction_length.Tie as tie
 
 returns : tie.Need-returns
 returns c = omega (arith, ap length (fraction-whole _ (c .if1 .taken)))

@@ -1,9 +1,9 @@
 -- The digits before the point, then the fraction.
 use borrow.Author.Needs.{needs}
 use Rattle.rules.specs.Writing.{numberText}
 use Rattle.text.proofs.Wrote.{wrote-more}
-use Rattle.text.proofs.millionths.put_number.Statement.{statement}
-use Rattle.text.proofs.millionths.put_number.Tie as tie
+use Rattle.millionths.proofs.put_number.Statement.{statement}
+use Rattle.millionths.proofs.put_number.Tie as tie
 
 returns : tie.Need-returns
 unfolding numberText

@@ -1,9 +1,9 @@
 -- The digits before the point and the fraction.
 use native.Mathlib.Omega.{arith}
-use Rattle.text.proofs.Numbers.{number-length}
+use Rattle.millionths.proofs.Numbers.{number-length}
 use borrow.Author.Needs.{needs}
-use Rattle.text.proofs.millionths.number_length.Statement.{statement}
-use Rattle.text.proofs.millionths.number_length.Tie as tie
+use Rattle.millionths.proofs.number_length.Statement.{statement}
+use Rattle.millionths.proofs.number_length.Tie as tie
 
 returns : tie.Need-returns
 returns c = omega (arith, number-length (c .before .before .args .v))

@@ -3,8 +3,8 @@ use native.Mathlib.Nat.{div-one}
 use borrow.Author.Needs.{needs}
 use borrow.Author.Tests.{lt-ltb, le-ltb}
 use Rattle.rules.specs.Writing.{lastDigits, widthOf}
-use Rattle.text.proofs.millionths.put_whole.Statement.{statement}
-use Rattle.text.proofs.millionths.put_whole.Tie as tie
+use Rattle.millionths.proofs.put_whole.Statement.{statement}
+use Rattle.millionths.proofs.put_whole.Tie as tie
 
 returns : tie.Need-returns
 unfolding widthOf lastDigits

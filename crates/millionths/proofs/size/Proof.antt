@@ -3,9 +3,9 @@ use mathlib.Core.Path.{ap, _∙_}
 use borrow.Author.Needs.{needs}
 use lib.IntN.{natAbs}
 use mir.Facts.{toZ-ofZ}
 use Rattle.text.proofs.Signs.{from-zero}
-use Rattle.text.proofs.millionths.size.Statement.{statement}
-use Rattle.text.proofs.millionths.size.Tie as tie
+use Rattle.millionths.proofs.size.Statement.{statement}
+use Rattle.millionths.proofs.size.Tie as tie
 
 returns : tie.Need-returns
 returns c = from-zero (c .before .args .x) (c .distance .ensures .0) ∙ ap natAbs (toZ-ofZ (c .before .fits .x))

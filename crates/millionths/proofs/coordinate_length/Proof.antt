@@ -3,9 +3,9 @@ use mathlib.Core.Path.{ap}
 use native.Mathlib.Omega.{arith}
 use lib.ListN.{length}
 use borrow.Author.Needs.{needs}
 use Rattle.text.proofs.Signs.{coordinate-signed, minus-text, plain-text}
-use Rattle.text.proofs.millionths.coordinate_length.Statement.{statement}
-use Rattle.text.proofs.millionths.coordinate_length.Tie as tie
+use Rattle.millionths.proofs.coordinate_length.Statement.{statement}
+use Rattle.millionths.proofs.coordinate_length.Tie as tie
 
 returns : tie.Need-returns
 returns c =

@@ -1,9 +1,9 @@
 -- Where negative a minus and then the size, else the size alone.
 use borrow.Author.Needs.{needs}
 use Rattle.text.proofs.Signs.{coordinate-signed, minus-text, plain-text}
 use Rattle.text.proofs.Wrote.{wrote-more}
-use Rattle.text.proofs.millionths.put_coordinate.Statement.{statement}
-use Rattle.text.proofs.millionths.put_coordinate.Tie as tie
+use Rattle.millionths.proofs.put_coordinate.Statement.{statement}
+use Rattle.millionths.proofs.put_coordinate.Tie as tie
 
 returns : tie.Need-returns
 returns c =
