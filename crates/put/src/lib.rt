@@ -15,9 +15,6 @@ use rules::kind;
 // The largest signed number.
 const MAX_SIGNED: u32 = 2147483647;
 
-// Where the state's numbers begin in a row.
-const STATE: usize = 5;
-
 // ---- a row's numbers
 
 // No row in range has a number over the largest signed one. Such a number is written as that one, which lies in no
@@ -124,5 +121,5 @@ pub fn row(table: &mut [i32], i: usize, command: Command, state: State)
     let first = command_numbers(command);
     let second = state_numbers(state);
     copy_in(table, at, &first);
-    copy_in(table, at + STATE, &second);
+    copy_in(table, at + first.len(), &second);
 }

@@ -1,5 +1,13 @@
 // A command's line as text: how long it is, and its bytes. Each function that writes does so from place `at` on, as crate
 // text has it, and hands back the place after its text.
+ghost use mathlib.Core.Path.{_≡_};
+ghost use mathlib.Core.List.{_++_};
+ghost use Prim.Native.Nat.{_≤_};
+ghost use lib.ListN.{length};
+ghost use Rattle.lists.specs.Words.{bytes};
+ghost use Rattle.rules.specs.declared.Command.the-variants.{Declare, Select};
+ghost use Rattle.rules.specs.Writing.{toolText, pointText, arcText, withLF, lineText, longestLine};
+ghost use Rattle.text.specs.Wrote.{Wrote};
 use millionths::coordinate_length;
 use millionths::number_length;
 use millionths::put_coordinate;
@@ -10,14 +18,6 @@ use rules::Command;
 use text::put_byte;
 use text::put_digits;
 use text::put_word;
-ghost use mathlib.Core.Path.{_≡_};
-ghost use mathlib.Core.List.{_++_};
-ghost use Prim.Native.Nat.{_≤_};
-ghost use lib.ListN.{length};
-ghost use Rattle.lists.specs.Words.{bytes};
-ghost use Rattle.rules.specs.declared.Command.the-variants.{Declare, Select};
-ghost use Rattle.rules.specs.Writing.{toolText, pointText, arcText, withLF, lineText, longestLine};
-ghost use Rattle.text.specs.Wrote.{Wrote};
 
 // ---- lengths
 
