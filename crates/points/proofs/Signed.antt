@@ -85,6 +85,7 @@ zero-sub-nonneg (negsuc n) e = tt
 abbrev pub Signed : ℤ → Type 0
 Signed z = mag z < 2 ^ 31
 
+-- of such a number
 pub read-back : (z : ℤ) → Signed z → toZ w32 (ofZ w32 z) ≡ z
 read-back z h = toZ-ofZ (record { sfits = h })
 

@@ -20,13 +20,11 @@ use Rattle.rules.specs.declared.Looked.the-variants.{Holds}
 use Rattle.rules.specs.Numbers.{maxNumber, maxTool}
 use Rattle.rules.specs.State.{over, inchUnit, toolDown}
 use Rattle.tools.specs.Set.{maxWord}
-use Rattle.rules.specs.Rows.{rowWidth, commandNumbers, stateNumbers, rowNumbers, commandAt, stateAt}
+use Rattle.rules.specs.Rows.{rowWidth, commandNumbers, stateNumbers, rowNumbers, commandAt, stateAt, lookOf}
 use Rattle.rules.specs.Ranges.{StateOk, ArcOk, CommandOk}
-use Rattle.laws.proofs.Rows.{command-length, row-length, command-back, state-back}
+use Rattle.laws.proofs.Rows.{command-length, row-length, command-back, state-back, look-holds}
 use Rattle.put.specs.PutRow.{maxSigned, capped, cappedArc, cappedCommand, cappedState, cappedNumbers, putRow}
 use Rattle.put.proofs.Capped.{capped-small, capped-large}
-use Rattle.table.specs.Table.{lookAt}
-use Rattle.table.proofs.Looks.{look-found}
 use Rattle.put.proofs.Puts.{put-inside}
 
 -- ---- rows with the same numbers are the same
@@ -91,15 +89,16 @@ uncapped-state s h =
       };
     }
 
-pub put-found : (t : List ℤ) (i : ℕ) (c d : Command) (s q : State) → rowWidth * i + rowWidth ≤ length t → lookAt (putRow t i c s) i ≡ Holds d q → (d ≡ c) × (q ≡ s)
+pub put-found : (t : List ℤ) (i : ℕ) (c d : Command) (s q : State) → rowWidth * i + rowWidth ≤ length t
+    → lookOf (take rowWidth (drop (rowWidth * i) (putRow t i c s))) ≡ Holds d q → (d ≡ c) × (q ≡ s)
 unfolding cappedNumbers
 put-found t i c d s q h e =
-    let f = look-found (putRow t i c s) i d q e in
     let n : length (cappedNumbers c s) ≡ rowWidth = row-length (record { command = cappedCommand c; state = cappedState s }) in
     let put : take rowWidth (drop (rowWidth * i) (putRow t i c s)) ≡ cappedNumbers c s
     = ap (λ (z : List ℤ). take rowWidth (drop (rowWidth * i) z)) (put-inside t i c s h)
     ∙ ap (λ (k : ℕ). take k (drop (rowWidth * i) (putAt t (rowWidth * i) (cappedNumbers c s)))) (sym n) ∙ put-at t (rowWidth * i) (cappedNumbers c s) (omega arith) in
-    let same : rowNumbers (record { command = cappedCommand c; state = cappedState s }) ≡ rowNumbers (record { command = d; state = q }) = sym put ∙ f .numbers in
+    let f = look-holds (cappedNumbers c s) d q n (ap lookOf (sym put) ∙ e) in
+    let same : rowNumbers (record { command = cappedCommand c; state = cappedState s }) ≡ rowNumbers (record { command = d; state = q }) = f .numbers in
     let g : cappedCommand c ≡ d = same-command _ _ same in
     let k : cappedState s ≡ q = same-state _ _ same in
     (sym g ∙ uncapped-command c (subst CommandOk (sym g) (f .command-ok)), sym k ∙ uncapped-state s (subst StateOk (sym k) (f .state-ok)))
