@@ -6,3 +6,5 @@ pub mod GoodTable
 pub mod WriteBack
 pub mod WriteRefused
 pub mod GoodExactly
+pub mod OneSpelling
+pub mod DiametersStand

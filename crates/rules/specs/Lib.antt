@@ -7,6 +7,7 @@ pub mod State
 pub mod Rows
 pub mod Ranges
 pub mod Holes
+pub mod Answers
 pub mod Reading
 pub mod Editing
 pub mod Asking
@@ -14,4 +15,5 @@ pub mod Writing
 pub mod Printing
 pub mod Spelling
 pub mod Obeys
+pub mod Written
 pub mod Bench
