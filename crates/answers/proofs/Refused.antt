@@ -7,20 +7,17 @@ use native.Mathlib.Omega.{arith}
 use lib.IntN.{ℤ}
 use lib.ListN.{length, drop, length-drop}
 use Rattle.lists.proofs.Choice.{cond-all}
-use Rattle.runs.specs.Machine.{Out, yields, stops, Verdict, accepted, refused, Row, Entry, holds, bad, Span, widen, rerun, follow, before}
+use Rattle.runs.specs.Machine.{stops, Verdict, accepted, refused, Row, Entry, holds, bad, Span, widen, rerun, follow, before}
 use Rattle.runs.proofs.Ways.{out-all}
-use Rattle.runs.proofs.Chains.{chain-length}
 use Rattle.rules.specs.declared.Command.{Command}
 use Rattle.rules.specs.declared.State.{State}
 use Rattle.rules.specs.declared.Refusal.{Refusal}
-use Rattle.rules.specs.declared.LineAnswer.{LineAnswer}
 use Rattle.rules.specs.declared.HoleAnswer.{HoleAnswer}
 use Rattle.rules.specs.declared.HoleAnswer.the-variants as H
 use Rattle.rules.specs.declared.DiameterAnswer.{DiameterAnswer}
 use Rattle.rules.specs.declared.DiameterAnswer.the-variants as D
 use Rattle.rules.specs.Refusals.{fileTooLong, tooManyLines, lineNotEnded, lineTooLong, forbiddenByte, noSuchForm, outOfRange, wrongPhase, wrongMotion, declaredAlready, notDeclared, noToolSelected, impossibleArc, endsTooSoon, noSuchLine, holdsLineEnd, badTable}
 use Rattle.rules.specs.Numbers.{maxLines, isTool}
-use Rattle.rules.specs.Lines.{Line}
 use Rattle.rules.specs.Commands.{lineOf}
 use Rattle.rules.specs.State.{start, taken, hasEnded, sameState}
 use Rattle.rules.specs.Rows.{entriesOf, sizesFit}
@@ -32,16 +29,11 @@ use Rattle.laws.proofs.Sizes.{sizes-say}
 use Rattle.laws.proofs.Sizes as Sizes
 use Rattle.laws.proofs.Entries.{entries-length}
 use Rattle.laws.proofs.Ways.{before-all, row-all, declared-all, hole-all}
-use Rattle.obeys.specs.Says.{CommandSays, spells, no-form, no-command, LineSays, too-long, forbidden, allowed, LineInFile, too-many, not-ended, line-says}
-use Rattle.obeys.specs.Faults.{Untaken, wrong-phase, wrong-motion, declared, undeclared, hit-without, down-without, g02-impossible, g03-impossible, Fault, unread, untaken, missing, Faulty, too-large, at-line}
-use Rattle.obeys.proofs.Lines.{line-sound}
-use Rattle.obeys.proofs.Files.{chain-counted, taken-refused}
+use Rattle.obeys.specs.Faults.{Untaken, wrong-phase, wrong-motion, declared, undeclared, hit-without, down-without, g02-impossible, g03-impossible, LineRefused, too-long, forbidden, no-form, no-command, Fault, missing, too-many, not-ended, unread, untaken, Faulty, too-large, at-line}
+use Rattle.obeys.proofs.Lines.{line-says}
+use Rattle.obeys.proofs.Files.{taken-refused}
 
 -- ---- a property of every refusal that comes
-
-abbrev pub Stops : {A : Type 0} → (Refusal → Type 0) → Out A Refusal → Type 0
-Stops P (yields a) = Unit {0}
-Stops P (stops e) = P e
 
 abbrev pub Told : {A : Type 0} → (Refusal → ℕ → Type 0) → Verdict A Refusal → Type 0
 Told P (accepted a) = Unit {0}
@@ -80,20 +72,11 @@ pub record OfRows (P : Refusal → ℕ → Type 0) (n : ℕ) : Type 0 where
 -- ---- a line
 
 module _ (P : Refusal → Type 0) (h : OfLine P) where
-  command-stops : {l : List ℕ} {a : LineAnswer} → CommandSays l a → Stops P (sayOut a)
-  command-stops (spells w) = tt
-  command-stops (no-form n) = h .form
-  command-stops (no-command w n) = h .range
-
-  says-stops : {l : List ℕ} {a : LineAnswer} → LineSays l a → Stops P (sayOut a)
-  says-stops (too-long n) = h .long
-  says-stops (forbidden s n) = h .byte
-  says-stops (allowed s p w) = command-stops w
-
-  in-file-stops : {i : ℕ} {l : Line} {o : Out Command Refusal} → P tooManyLines → P lineNotEnded → LineInFile i l o → Stops P o
-  in-file-stops a b (too-many n) = a
-  in-file-stops a b (not-ended n e) = b
-  in-file-stops a b (line-says n e w) = says-stops w
+  refused-of : {l : List ℕ} {e : Refusal} → LineRefused l e → P e
+  refused-of (too-long n) = h .long
+  refused-of (forbidden s n) = h .byte
+  refused-of (no-form s p n) = h .form
+  refused-of (no-command s p w n) = h .range
 
 -- ---- a step
 
@@ -119,14 +102,16 @@ pub record OfFile (P : Refusal → ℕ → Type 0) (i : ℕ) : Type 0 where
   pub short : P endsTooSoon i
 
 module _ (P : Refusal → ℕ → Type 0) (large : P fileTooLong 0) (lines : (i : ℕ) → i ≤ maxLines + 1 → OfFile P i) where
-  fault-of : {i : ℕ} {p : State} {ls : List Line} {e : Refusal} → OfFile P i → Fault i p ls e → P e i
-  fault-of {i} h (unread u) = in-file-stops (λ e. P e i) (h .line) (h .many) (h .unended) u
-  fault-of {i} h (untaken u v) = untaken-of (λ e. P e i) (h .step) v
-  fault-of h (missing n) = h .short
+  fault-of : {i : ℕ} {p : State} {bs : List ℕ} {e : Refusal} → OfFile P i → Fault i p bs e → P e i
+  fault-of h (missing d n) = h .short
+  fault-of h (too-many m n) = h .many
+  fault-of h (not-ended m n f) = h .unended
+  fault-of {i} h (unread n w r) = refused-of (λ e. P e i) (h .line) r
+  fault-of {i} h (untaken n w s u) = untaken-of (λ e. P e i) (h .step) u
 
   pub faulty-told : {bs : List ℕ} {e : Refusal} {i : ℕ} → Faulty bs e i → P e i
   faulty-told (too-large n) = large
-  faulty-told (at-line {before = xs} n d w f) = fault-of (lines (length xs + 1) (omega (arith, chain-counted w (omega arith), chain-length w))) f
+  faulty-told (at-line {rs = rs} m d n w g f) = fault-of (lines (length rs + 1) (omega arith)) f
 
 -- ---- rows rerun, and rows that must follow
 
@@ -184,7 +169,7 @@ module _ (P : Refusal → ℕ → Type 0) (t : List ℤ) (n : ℕ) (sizes : P ba
       let m = entries-length n t in
       before-all (Told P) (beforeLine k (entryAt (entriesOf n t) (k - 1))) (o .damaged (k - 1) (omega arith))
       (λ s. before-all (Told P) (stateIn (entryAt (entriesOf n t) k)) (o .damaged k (p .1))
-      (λ z. out-all (Told P) (sayOut (lineOf l)) (λ e d. subst (Stops (λ a. P a k)) d (says-stops (λ a. P a k) (line few (p .1)) (line-sound l)))
+      (λ z. out-all (Told P) (sayOut (lineOf l)) (λ e d. refused-of (λ a. P a k) (line few (p .1)) (line-says l (stops e) .0 d))
       (λ c _. rerun-told P n o s (holds (record { command = c; state = z }) ∷ drop k (entriesOf n t)) (k - 1) (omega (arith, length-drop k (entriesOf n t)))))))
       (λ _. b)) (λ _. a)) (λ _. sizes)
 

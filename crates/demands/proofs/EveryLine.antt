@@ -1,105 +1,54 @@
 -- Every line of an accepted file is a line that demand 3 speaks of, and the edited file is one: its bytes are its lines
 -- put together again.
 use mathlib.Core.Path.{_≡_, refl, sym, ap, _∙_, subst}
-use mathlib.Core.Bool.{Bool, true, false, false≢true, cond}
+use mathlib.Core.Bool.{true, false, false≢true}
 use mathlib.Core.List.{List, [], _∷_, _++_, append-assoc, append-nil}
 use Prim.Native.Nat.{ℕ, zero, suc, _+_, _-_, _<_, _≤_}
 use native.Mathlib.Omega.{arith}
-use borrow.Author.Tests.{eqb-true, eqb-false}
-use lib.Dec.{eqb}
 use lib.ListN.{length, getD, set}
 use lib.Seq.{getD-at}
 use Rattle.runs.specs.Machine.{accepted}
 use Rattle.runs.proofs.Chains.{chain-length}
-use Rattle.rules.specs.Lines.{LF, CR, Line, emptyLine, addByte, linesOf, endsInCR, textOf, NoLF, AllEnded}
+use Rattle.rules.specs.Lines.{LF, Line, emptyLine, linesOf, endsInCR, textOf, NoLF, AllEnded}
 use Rattle.rules.specs.Spelling.{LineEnd, lf, crlf}
 use Rattle.rules.specs.Reading.{Rows, fileOf}
 use Rattle.rules.specs.Editing.{noLineEnd}
-use Rattle.laws.proofs.Lines.{no-byte-take, ends-cr, cr-last, endedLine, crOf, lineWith, lf-line, add-ended, joinOf, join-lines}
+use Rattle.laws.proofs.Lines.{ends-cr, endedLine, crOf, lineWith, lf-line, ended, last, FirstOf, first-of, first-line, no-cr-end, joinOf, join-lines}
 use Rattle.answers.proofs.AcceptedFile.{file-accepts, file-ended}
 use Rattle.demands.specs.EditedFile.{LineOf, edited}
 use Rattle.demands.proofs.EditedLines.{lines-old, lines-set}
 
--- ---- the first line of bytes that are whole lines
-
-record FirstOf (bs : List ℕ) : Type 0 where
-  line : List ℕ
-  rest : List ℕ
-  parts : bs ≡ line ++ (LF ∷ rest)
-  no-lf : NoLF line
-
-some-line : (b : ℕ) (ls : List Line) → AllEnded (addByte b ls) → 0 < length ls
-some-line b [] h = absurd (false≢true (h .0))
-some-line b (l ∷ ls) h = omega arith
-
-first-byte : (b : ℕ) (bs : List ℕ) (t : Bool) → eqb b LF ≡ t → AllEnded (cond t (emptyLine ∷ linesOf bs) (addByte b (linesOf bs)))
-    → (AllEnded (linesOf bs) → 0 < length (linesOf bs) → FirstOf bs) → FirstOf (b ∷ bs)
-first-byte b bs true e h ih = record { line = []; rest = bs; parts = ap (λ (z : ℕ). z ∷ bs) (eqb-true b LF e); no-lf = tt }
-first-byte b bs false e h ih =
-    let f = ih (add-ended b (linesOf bs) h) (some-line b (linesOf bs) h) in
-    record { line = b ∷ f .line; rest = f .rest; parts = ap (λ (z : List ℕ). b ∷ z) (f .parts); no-lf = (eqb-false b LF e, f .no-lf) }
-
-first-of : (bs : List ℕ) → AllEnded (linesOf bs) → 0 < length (linesOf bs) → FirstOf bs
-unfolding linesOf
-first-of [] h n = absurd (omega arith)
-first-of (b ∷ bs) h n = first-byte b bs (eqb b LF) refl h (first-of bs)
-
--- ---- its text and its end
-
-record EndOf (line : List ℕ) : Type 0 where
-  text : List ℕ
-  end : List ℕ
-  parts : (rest : List ℕ) → line ++ (LF ∷ rest) ≡ text ++ (end ++ rest)
-  no-lf : NoLF text
-  ends : LineEnd end
-  no-cr-left : end ≡ LF ∷ [] → endsInCR text ≡ false
-
-text-no-lf : (l : List ℕ) → NoLF l → endsInCR l ≡ true → NoLF (textOf l)
-unfolding textOf
-text-no-lf l h e = rw e (no-byte-take LF (length l - 1) l h)
-
-end-of : (l : List ℕ) → NoLF l → (t : Bool) → endsInCR l ≡ t → EndOf l
-end-of l h true e = record {
-  text = textOf l;
-  end = CR ∷ LF ∷ [];
-  parts = λ rest. ap (λ (z : List ℕ). z ++ (LF ∷ rest)) (cr-last l e) ∙ append-assoc (textOf l) (CR ∷ []) (LF ∷ rest);
-  no-lf = text-no-lf l h e;
-  ends = crlf;
-  no-cr-left = λ w. absurd (let z : _≡_ {A = ℕ} 13 10 = cc in omega arith);
-}
-end-of l h false e = record { text = l; end = LF ∷ []; parts = λ rest. refl; no-lf = h; ends = lf; no-cr-left = λ _. e }
-
 -- ---- line k
 
-module _ {bs : List ℕ} (f : FirstOf bs) where
-  first-lines : linesOf bs ≡ endedLine (f .line) ∷ linesOf (f .rest)
-  first-lines = ap linesOf (f .parts) ∙ lf-line (f .line) (f .rest) (f .no-lf)
-
-  first : EndOf (f .line) → LineOf bs 1
+-- the first line, whose bytes are b
+module _ (bs b rest : List ℕ) (p : bs ≡ b ++ (LF ∷ rest)) (h : NoLF b) where
+  first : LineOf bs 1
   unfolding linesOf
-  first e = record {
-    before = [];
-    line = e .text;
-    end = e .end;
-    after = f .rest;
-    parts = f .parts ∙ e .parts (f .rest);
-    whole-lines = tt;
-    number = refl;
-    one-line = e .no-lf;
-    ends = e .ends;
-    no-cr-left = e .no-cr-left;
-  }
+  first =
+      let w = first-line bs b rest p h in
+      record {
+        before = [];
+        line = textOf b;
+        end = w .end;
+        after = rest;
+        parts = w .parts;
+        whole-lines = tt;
+        number = refl;
+        one-line = w .one-line;
+        ends = w .ends;
+        no-cr-left = λ e. no-cr-end (textOf b) (w .no-cr-left e);
+      }
 
   -- a line of the rest is a line of all
-  later : {k : ℕ} → LineOf (f .rest) k → LineOf bs (suc k)
+  later : {k : ℕ} → LineOf rest k → LineOf bs (suc k)
   later w =
-      let d : linesOf (f .line ++ (LF ∷ w .before)) ≡ endedLine (f .line) ∷ linesOf (w .before) = lf-line (f .line) (w .before) (f .no-lf) in
+      let d : linesOf (b ++ (LF ∷ w .before)) ≡ endedLine b ∷ linesOf (w .before) = lf-line b (w .before) h in
       record {
-        before = f .line ++ (LF ∷ w .before);
+        before = b ++ (LF ∷ w .before);
         line = w .line;
         end = w .end;
         after = w .after;
-        parts = f .parts ∙ ap (λ (z : List ℕ). f .line ++ (LF ∷ z)) (w .parts) ∙ sym (append-assoc (f .line) (LF ∷ w .before) (w .line ++ (w .end ++ w .after)));
+        parts = p ∙ ap (λ (z : List ℕ). b ++ (LF ∷ z)) (w .parts) ∙ sym (append-assoc b (LF ∷ w .before) (w .line ++ (w .end ++ w .after)));
         whole-lines = rw d (refl, w .whole-lines);
         number = omega (arith, w .number, ap length d);
         one-line = w .one-line;
@@ -107,12 +56,17 @@ module _ {bs : List ℕ} (f : FirstOf bs) where
         no-cr-left = w .no-cr-left;
       }
 
+-- among lines that are all ended
+line-in : (k : ℕ) (bs : List ℕ) (ls : List Line) → FirstOf bs ls → AllEnded ls → k < length ls
+    → ((rest : List ℕ) → AllEnded (linesOf rest) → k ≤ length (linesOf rest) → LineOf rest k) → LineOf bs (suc k)
+line-in k bs [] f h n ih = absurd (omega arith)
+line-in zero bs (l ∷ ls) (ended rest t p f r) h n ih = first bs (l .bytes) rest p f
+line-in (suc k) bs (l ∷ ls) (ended rest t p f r) h n ih = later bs (l .bytes) rest p f (ih rest (rw r (h .1)) (omega (arith, ap length r)))
+line-in k bs (l ∷ ls) (last t m f) h n ih = absurd (false≢true (sym t ∙ h .0))
+
 line-at : (k : ℕ) (bs : List ℕ) → AllEnded (linesOf bs) → k < length (linesOf bs) → LineOf bs (suc k)
-line-at zero bs h n = let f = first-of bs h n in first f (end-of (f .line) (f .no-lf) (endsInCR (f .line)) refl)
-line-at (suc k) bs h n =
-    let f = first-of bs h (omega arith) in
-    let c = first-lines f in
-    later f (line-at k (f .rest) (subst AllEnded c h .1) (omega (arith, ap length c)))
+line-at zero bs h n = line-in zero bs (linesOf bs) (first-of bs) h n (λ rest g m. absurd (omega arith))
+line-at (suc k) bs h n = line-in (suc k) bs (linesOf bs) (first-of bs) h n (λ rest g m. line-at k rest g m)
 
 pub every-line : (bs : List ℕ) (rs : Rows) → fileOf bs ≡ accepted rs → (k : ℕ) → 1 ≤ k → k ≤ length rs → LineOf bs k
 every-line bs rs h k a b =

@@ -12,7 +12,7 @@ use lib.ListN.{length, getD, take, length-append, take-append-drop, drop-of-leng
 use lib.Seq.{drop-cons, getD-append-seam, take-append-seam}
 use Rattle.lists.proofs.Choice.{cond-all, both}
 use Rattle.rules.specs.Lines.{LF, CR, Line, emptyLine, addByte, linesOf, endsInCR, textOf, isPrintable, NoByte, NoLF, AllEnded}
-use Rattle.rules.specs.Spelling.{LineEnd, lf, crlf}
+use Rattle.rules.specs.Spelling.{LineEnd, lf, crlf, FirstLine}
 use Rattle.rules.specs.Editing.{noLineEnd}
 
 -- ---- bytes without a given one
@@ -20,6 +20,10 @@ use Rattle.rules.specs.Editing.{noLineEnd}
 pub no-byte-append : (v : ℕ) (xs ys : List ℕ) → NoByte v xs → NoByte v ys → NoByte v (xs ++ ys)
 no-byte-append v [] ys g h = h
 no-byte-append v (x ∷ xs) ys g h = (g .0, no-byte-append v xs ys (g .1) h)
+
+pub no-byte-rest : (v : ℕ) (xs ys : List ℕ) → NoByte v (xs ++ ys) → NoByte v ys
+no-byte-rest v [] ys h = h
+no-byte-rest v (x ∷ xs) ys h = no-byte-rest v xs ys (h .1)
 
 pub no-byte-take : (v n : ℕ) (l : List ℕ) → NoByte v l → NoByte v (take n l)
 no-byte-take v zero l h = tt
@@ -149,6 +153,61 @@ pub lines-append : (xs ys : List ℕ) → AllEnded (linesOf xs) → linesOf (xs 
 unfolding linesOf
 lines-append [] ys h = refl
 lines-append (b ∷ xs) ys h = byte-append b xs ys (eqb b LF) (lines-append xs ys) h
+
+-- ---- the first line of some bytes
+
+-- it is ended, and these are its bytes and the lines after it; or all bytes are a line that isn't
+pub data First (bs : List ℕ) (l : Line) (ls : List Line) : Type 0 where
+  ended : (rest : List ℕ) → l .ended ≡ true → bs ≡ l .bytes ++ (LF ∷ rest) → NoLF (l .bytes) → linesOf rest ≡ ls → First bs l ls
+  last : l .ended ≡ false → (bs ≡ [] → ⊥) → NoLF bs → First bs l ls
+
+abbrev pub FirstOf : List ℕ → List Line → Type 0
+FirstOf bs [] = bs ≡ []
+FirstOf bs (l ∷ ls) = First bs l ls
+
+first-more : (b : ℕ) (bs : List ℕ) (ls : List Line) → (b ≡ LF → ⊥) → FirstOf bs ls → FirstOf (b ∷ bs) (addByte b ls)
+first-more b bs [] n h = last refl (λ e. let z : _≡_ {A = ℕ} 0 1 = cc in omega arith) (n, rw h tt)
+first-more b bs (l ∷ ls) n (ended rest t p f r) = ended rest t (ap (λ (z : List ℕ). b ∷ z) p) (n, f) r
+first-more b bs (l ∷ ls) n (last t m f) = last t (λ e. let z : _≡_ {A = ℕ} 0 1 = cc in omega arith) (n, f)
+
+pub first-of : (bs : List ℕ) → FirstOf bs (linesOf bs)
+unfolding linesOf
+first-of [] = refl
+first-of (b ∷ bs) =
+    cond-all (FirstOf (b ∷ bs)) (eqb b LF) (λ e. ended bs refl (ap (λ (z : ℕ). z ∷ bs) (eqb-true b LF e)) tt refl)
+    (λ e. first-more b bs (linesOf bs) (eqb-false b LF e) (first-of bs))
+
+text-no-lf : (l : List ℕ) → NoLF l → endsInCR l ≡ true → NoLF (textOf l)
+unfolding textOf
+text-no-lf l f e = rw e (no-byte-take LF (length l - 1) l f)
+
+-- an ended line's text and end
+pub first-line : (bs l rest : List ℕ) → bs ≡ l ++ (LF ∷ rest) → NoLF l → FirstLine bs (textOf l) rest
+first-line bs l rest p f = by (endsInCR l) refl
+  where
+    by : (t : Bool) → endsInCR l ≡ t → FirstLine bs (textOf l) rest
+    by true e = record {
+      end = CR ∷ LF ∷ [];
+      ends = crlf;
+      parts = p ∙ ap (λ (z : List ℕ). z ++ (LF ∷ rest)) (cr-last l e) ∙ append-assoc (textOf l) (CR ∷ []) (LF ∷ rest);
+      one-line = text-no-lf l f e;
+      no-cr-left = λ w. absurd (let z : _≡_ {A = ℕ} 13 10 = cc in omega arith);
+    }
+    by false e = record {
+      end = LF ∷ [];
+      ends = lf;
+      parts = p ∙ ap (λ (z : List ℕ). z ++ (LF ∷ rest)) (sym (text-plain l e));
+      one-line = rw (text-plain l e) f;
+      no-cr-left = λ w b c. false≢true (sym e ∙ ap endsInCR (sym (text-plain l e) ∙ c) ∙ ends-cr b);
+    }
+
+-- a text that ends in no CR
+pub no-cr-end : (l : List ℕ) → ((b : List ℕ) → l ≡ b ++ (CR ∷ []) → ⊥) → endsInCR l ≡ false
+no-cr-end l h = by (endsInCR l) refl
+  where
+    by : (t : Bool) → endsInCR l ≡ t → endsInCR l ≡ false
+    by true e = absurd (h (textOf l) (cr-last l e))
+    by false e = e
 
 -- ---- lines, put together again
 

@@ -1,17 +1,17 @@
 -- A file is accepted exactly where it has a reading, and with the rows of that; it is refused exactly at its lowest faulty
 -- line. Every run of lines ends in one of these two ways.
 use mathlib.Core.Path.{_≡_, refl, sym, ap, _∙_, subst, subst₂}
-use mathlib.Core.Bool.{true}
-use mathlib.Core.List.{List, [], _∷_, _++_}
+use mathlib.Core.Bool.{true, false, false≢true}
+use mathlib.Core.List.{List, [], _∷_, _++_, append-assoc}
 use Prim.Native.Nat.{ℕ, _+_, _≤_}
 use native.Mathlib.Omega.{arith}
 use borrow.Author.Tests.{eq-eqb, ne-eqb, eqb-true, eqb-false, le-leb, lt-leb, leb-true, leb-false}
 use lib.Dec.{leb}
-use lib.ListN.{length}
+use lib.ListN.{length, length-append}
 use Rattle.lists.proofs.Choice.{cond-all}
 use Rattle.runs.specs.Machine.{yields, stops, Verdict, accepted, refused, before, commandsOf, lastOf, run, Chain, nil, link, Follows}
 use Rattle.runs.proofs.Ways.{out-all}
-use Rattle.runs.proofs.Chains.{chain-map, chain-follows, follows-head, follows-tail}
+use Rattle.runs.proofs.Chains.{chain-length, chain-map, chain-follows, follows-head, follows-tail}
 use Rattle.runs.proofs.Append.{befores, Reads, run-append, reads-run}
 use Rattle.rules.specs.declared.Command.{Command}
 use Rattle.rules.specs.declared.State.{State}
@@ -20,17 +20,17 @@ use Rattle.rules.specs.declared.Next.{Next}
 use Rattle.rules.specs.declared.Next.the-variants.{To, No}
 use Rattle.rules.specs.Refusals.{endsTooSoon}
 use Rattle.rules.specs.Numbers.{maxFile, maxLines}
-use Rattle.rules.specs.Lines.{Line, linesOf}
+use Rattle.rules.specs.Lines.{LF, Line, linesOf, textOf, NoLF, AllEnded}
 use Rattle.rules.specs.State.{over, start, step, outOf, taken, hasEnded}
-use Rattle.rules.specs.Spelling.{SpellsLine, SpellsFile, empty}
+use Rattle.rules.specs.Spelling.{SpellsLine, FirstLine, SpellsFile, empty}
 use Rattle.rules.specs.Spelling as S
 use Rattle.rules.specs.Reading.{Rows, commandIn, runFrom, runOf, fileOf}
 use Rattle.rules.specs.Obeys.{Takes, ReadingOf, Obeys}
-use Rattle.laws.proofs.Lines.{lineWith, joinOf, join-lines}
-use Rattle.obeys.specs.Says.{LineReads}
-use Rattle.obeys.specs.Faults.{Untaken, Fault, unread, untaken, missing, Faulty, too-large, at-line}
+use Rattle.laws.proofs.Lines.{no-byte-rest, lineWith, end-line, end-text, no-cr-end, lines-append, First, ended, last, FirstOf, first-of, first-line, joinOf, join-lines}
+use Rattle.obeys.specs.Faults.{Untaken, Fault, missing, too-many, not-ended, unread, untaken, Faulty, too-large, at-line}
+use Rattle.obeys.proofs.Split as Split
 use Rattle.obeys.proofs.Steps.{step-iff, refused-iff}
-use Rattle.obeys.proofs.Split.{Yields, line-in-file, yields-line, line-yields, spells-first, spelled-falls, spelled-text}
+use Rattle.obeys.proofs.Split.{LineReads, LineFault, beyond, unended, line-fault, yields-line, line-yields, spells-first, spelled-falls, spelled-text}
 
 -- ---- one command
 
@@ -39,7 +39,7 @@ taken-takes p c q e = step-iff p c q .0 (by (step p c) e)
   where
     by : (n : Next) → outOf n ≡ yields q → n ≡ To q
     by (To s) e = let f : s ≡ q = cc in ap To f
-    by (No r) e = absurd (subst Yields (sym e) tt)
+    by (No r) e = absurd (let z : _≡_ {A = ℕ} 0 1 = cc in omega arith)
 
 takes-taken : {p q : State} {c : Command} → Takes p c q → taken p c ≡ yields q
 takes-taken {p} {q} {c} w = ap outOf (step-iff p c q .1 w)
@@ -48,7 +48,7 @@ pub taken-refused : (p : State) (c : Command) (e : Refusal) → taken p c ≡ st
 taken-refused p c e d = refused-iff p c e .0 (by (step p c) d)
   where
     by : (n : Next) → outOf n ≡ stops e → n ≡ No e
-    by (To s) d = absurd (subst Yields d tt)
+    by (To s) d = absurd (let z : _≡_ {A = ℕ} 0 1 = cc in omega arith)
     by (No r) d = let f : r ≡ e = cc in ap No f
 
 refused-taken : {p : State} {c : Command} {e : Refusal} → Untaken p c e → taken p c ≡ stops e
@@ -63,13 +63,19 @@ ReadsAs = Chain LineReads Takes
 by-machine : {p : State} {i : ℕ} {ls : List Line} {rs : Rows} → ReadsAs p i ls rs → Reads commandIn taken p ls i rs
 by-machine = chain-map (λ i l c w. line-yields w) (λ p c q w. takes-taken w)
 
+-- line i, the first of those left, is no command; or is one that may not come in state p; or is missing
+data Stuck (i : ℕ) (p : State) : List Line → Refusal → Type 0 where
+  no-line : (p .phase ≡ over → ⊥) → Stuck i p [] endsTooSoon
+  no-command : {l : Line} {ls : List Line} {e : Refusal} → LineFault i l e → Stuck i p (l ∷ ls) e
+  not-here : {l : Line} {ls : List Line} {c : Command} {e : Refusal} → LineReads i l c → Untaken p c e → Stuck i p (l ∷ ls) e
+
 -- from state p, after i lines: all lines read and the run has ended, or one is at fault
 data Outcome (p : State) (i : ℕ) : List Line → Verdict Rows Refusal → Type 0 where
   reads : {ls : List Line} {rs : Rows} → ReadsAs p i ls rs → hasEnded (lastOf p rs) ≡ true → Outcome p i ls (accepted rs)
-  fault : {xs ys : List Line} {rs : Rows} {e : Refusal} {j : ℕ} → ReadsAs p i xs rs → i + length xs + 1 ≡ j → Fault j (lastOf p rs) ys e
+  fault : {xs ys : List Line} {rs : Rows} {e : Refusal} {j : ℕ} → ReadsAs p i xs rs → i + length xs + 1 ≡ j → Stuck j (lastOf p rs) ys e
       → Outcome p i (xs ++ ys) (refused e j)
 
-first : (p : State) (i : ℕ) (ls : List Line) (e : Refusal) → Fault (i + 1) p ls e → Outcome p i ls (refused e (i + 1))
+first : (p : State) (i : ℕ) (ls : List Line) (e : Refusal) → Stuck (i + 1) p ls e → Outcome p i ls (refused e (i + 1))
 unfolding lastOf
 first p i ls e f = fault {xs = []} {j = i + 1} nil (omega arith) f
 
@@ -81,23 +87,23 @@ more p q i l ls c v h k (fault {xs = xs} {j = j} w n f) = fault {xs = l ∷ xs} 
 
 run-outcome : (ls : List Line) (p : State) (i : ℕ) → Outcome p i ls (runFrom p ls i)
 unfolding run lastOf
-run-outcome [] p i = cond-all (Outcome p i []) (hasEnded p) (λ e. reads nil e) (λ e. first p i [] endsTooSoon (missing (eqb-false (p .phase) over e)))
+run-outcome [] p i = cond-all (Outcome p i []) (hasEnded p) (λ e. reads nil e) (λ e. first p i [] endsTooSoon (no-line (eqb-false (p .phase) over e)))
 run-outcome (l ∷ ls) p i =
-    out-all (Outcome p i (l ∷ ls)) (commandIn (i + 1) l) (λ e h. first p i (l ∷ ls) e (unread (line-in-file (i + 1) l (stops e) .0 h)))
+    out-all (Outcome p i (l ∷ ls)) (commandIn (i + 1) l) (λ e h. first p i (l ∷ ls) e (no-command (line-fault (i + 1) l e .0 h)))
     (λ c h. let w : LineReads (i + 1) l c = yields-line (i + 1) l c h in
-    out-all (Outcome p i (l ∷ ls)) (taken p c) (λ e k. first p i (l ∷ ls) e (untaken w (taken-refused p c e k)))
+    out-all (Outcome p i (l ∷ ls)) (taken p c) (λ e k. first p i (l ∷ ls) e (not-here w (taken-refused p c e k)))
     (λ q k. more p q i l ls c (runFrom q ls (i + 1)) w (taken-takes p c q k) (run-outcome ls q (i + 1))))
 
-fault-first : {p : State} {ys : List Line} {e : Refusal} (i : ℕ) → Fault (i + 1) p ys e → runFrom p ys i ≡ refused e (i + 1)
+stuck-first : {p : State} {ys : List Line} {e : Refusal} (i : ℕ) → Stuck (i + 1) p ys e → runFrom p ys i ≡ refused e (i + 1)
 unfolding run
-fault-first {e = e} i (unread {l = l} h) = rw (line-in-file (i + 1) l (stops e) .1 h)
-fault-first i (untaken h k) = rw (line-yields h, refused-taken k)
-fault-first {p} i (missing h) = rw (ne-eqb (p .phase) over h)
+stuck-first {e = e} i (no-command {l = l} h) = rw (line-fault (i + 1) l e .1 h)
+stuck-first i (not-here h k) = rw (line-yields h, refused-taken k)
+stuck-first {p} i (no-line h) = rw (ne-eqb (p .phase) over h)
 
-fault-run : {p : State} {i : ℕ} {xs ys : List Line} {rs : Rows} {e : Refusal} → ReadsAs p i xs rs → Fault (i + length xs + 1) (lastOf p rs) ys e
+stuck-run : {p : State} {i : ℕ} {xs ys : List Line} {rs : Rows} {e : Refusal} → ReadsAs p i xs rs → Stuck (i + length xs + 1) (lastOf p rs) ys e
     → runFrom p (xs ++ ys) i ≡ refused e (i + length xs + 1)
-fault-run {i = i} {xs} {ys} {rs} w f =
-    run-append commandIn taken hasEnded endsTooSoon (by-machine w) ys ∙ ap (befores rs) (fault-first (i + length xs) f)
+stuck-run {i = i} {xs} {ys} {rs} w f =
+    run-append commandIn taken hasEnded endsTooSoon (by-machine w) ys ∙ ap (befores rs) (stuck-first (i + length xs) f)
 
 -- ---- lines that read are a reading
 
@@ -128,6 +134,86 @@ spelled-reads {p} (r ∷ rs) i (S.line {l = l} {rest = rest} {c = c} {cs = cs} w
     subst (λ (z : List Line). ReadsAs p i z (r ∷ rs)) (sym (spelled-falls (w .printable) e rest))
     (link v (follows-head g) (spelled-reads rs (i + 1) f others (follows-tail g) (omega arith)))
 
+-- ---- a line at fault, in lines and in bytes
+
+reads-ended : {p : State} {i : ℕ} {ls : List Line} {rs : Rows} → ReadsAs p i ls rs → AllEnded ls
+reads-ended nil = tt
+reads-ended (link r t w) = (r .ends, reads-ended w)
+
+-- lines of which the first are ended: the bytes of these, and those left
+record Parted (bs : List ℕ) (xs ys : List Line) : Type 0 where
+  left : List ℕ
+  parts : bs ≡ joinOf xs ++ left
+  lines : linesOf left ≡ ys
+
+parted-more : (bs : List ℕ) (x : Line) (xs ys : List Line) → x .ended ≡ true → ((rest : List ℕ) → linesOf rest ≡ xs ++ ys → Parted rest xs ys)
+    → First bs x (xs ++ ys) → Parted bs (x ∷ xs) ys
+parted-more bs x xs ys h ih (ended rest t p f r) =
+    let w = ih rest r in
+    record {
+      left = w .left;
+      parts = rw h (p ∙ ap (λ (z : List ℕ). x .bytes ++ (LF ∷ z)) (w .parts) ∙ sym (append-assoc (x .bytes) (LF ∷ joinOf xs) (w .left)));
+      lines = w .lines;
+    }
+parted-more bs x xs ys h ih (last t m f) = absurd (false≢true (sym t ∙ h))
+
+parted : (bs : List ℕ) (xs ys : List Line) → linesOf bs ≡ xs ++ ys → AllEnded xs → Parted bs xs ys
+parted bs [] ys d h = record { left = bs; parts = refl; lines = d }
+parted bs (x ∷ xs) ys d h = parted-more bs x xs ys (h .0) (λ rest r. parted rest xs ys r (h .1)) (subst (FirstOf bs) d (first-of bs))
+
+module _ (i : ℕ) (p : State) (bs : List ℕ) where
+  some-bytes : {l : Line} {ls : List Line} → First bs l ls → bs ≡ [] → ⊥
+  some-bytes {l} (ended rest t q f r) e = omega (arith, ap length (sym q ∙ e), length-append (l .bytes) (LF ∷ rest))
+  some-bytes (last t m f) e = m e
+
+  -- what the first line's bytes are where it is ended
+  ended-line : {l : Line} {ls : List Line} → First bs l ls → l .ended ≡ true → (rest : List ℕ) × FirstLine bs (textOf (l .bytes)) rest
+  ended-line {l} (ended rest t q f r) e = (rest, first-line bs (l .bytes) rest q f)
+  ended-line (last t m f) e = absurd (false≢true (sym t ∙ e))
+
+  not-lf : {l : Line} {ls : List Line} → First bs l ls → l .ended ≡ false → NoLF bs
+  not-lf (ended rest t q f r) e = absurd (false≢true (sym e ∙ t))
+  not-lf (last t m f) e = f
+
+  line-bytes : {l : Line} {ls : List Line} {e : Refusal} → First bs l ls → LineFault i l e → Fault i p bs e
+  line-bytes w (beyond n) = too-many (some-bytes w) n
+  line-bytes w (unended n e) = not-ended (some-bytes w) n (not-lf w e)
+  line-bytes w (Split.unread n e r) = unread n (ended-line w e .1) r
+
+  stuck-bytes : {ls : List Line} {e : Refusal} → FirstOf bs ls → Stuck i p ls e → Fault i p bs e
+  stuck-bytes h (no-line n) = missing h n
+  stuck-bytes h (no-command f) = line-bytes h f
+  stuck-bytes h (not-here r u) = untaken (r .counted) (ended-line h (r .ends) .1) (r .spelling) u
+
+  module _ {l rest : List ℕ} (w : FirstLine bs l rest) where
+    line-is : linesOf bs ≡ lineWith l (w .ends) ∷ linesOf rest
+    line-is = ap linesOf (w .parts) ∙ end-line l (w .ends) rest (w .one-line)
+
+    text-is : textOf (lineWith l (w .ends) .bytes) ≡ l
+    text-is = end-text l (w .ends) (λ e. no-cr-end l (w .no-cr-left e))
+
+  -- the bytes' first line, where there is one
+  with-first : {e : Refusal} → (bs ≡ [] → ⊥) → ((l : Line) (ls : List Line) → First bs l ls → LineFault i l e) → Stuck i p (linesOf bs) e
+  with-first {e} n f = by (linesOf bs) (first-of bs)
+    where
+      by : (ls : List Line) → FirstOf bs ls → Stuck i p ls e
+      by [] h = absurd (n h)
+      by (l ∷ ls) h = no-command (f l ls h)
+
+  bytes-stuck : {e : Refusal} → Fault i p bs e → Stuck i p (linesOf bs) e
+  unfolding linesOf
+  bytes-stuck (missing d n) = rw d (no-line n)
+  bytes-stuck (too-many m n) = with-first m (λ l ls w. beyond n)
+  bytes-stuck (not-ended m n f) = with-first m (λ l ls w. unended n (unlined w f))
+    where
+      unlined : {l : Line} {ls : List Line} → First bs l ls → NoLF bs → l .ended ≡ false
+      unlined {l} (ended rest t q g r) f = absurd (no-byte-rest LF (l .bytes) (LF ∷ rest) (subst NoLF q f) .0 refl)
+      unlined (last t m f) g = t
+  bytes-stuck (unread {l = l} {e = e} n w r) =
+      rw (line-is w) (no-command {l = lineWith l (w .ends)} (Split.unread {e = e} n refl (rw (text-is w) r)))
+  bytes-stuck (untaken {l = l} {c = c} n w s u) =
+      rw (line-is w) (not-here {l = lineWith l (w .ends)} {c = c} (record { counted = n; ends = refl; spelling = rw (text-is w) s }) u)
+
 -- ---- a file
 
 abbrev FileSays : List ℕ → Verdict Rows Refusal → Type 0
@@ -151,8 +237,12 @@ file-sound bs =
           ends = eqb-true (lastOf start rs .phase) over e;
         }
     by h ls v d (fault {xs = xs} {ys = ys} {rs = rs} {e = e} {j = j} w n f) =
-        let m : j ≡ length xs + 1 = omega (arith, n) in
-        subst (Faulty bs e) (sym m) (at-line h d w (subst (λ (z : ℕ). Fault z (lastOf start rs) ys e) m f))
+        let q = parted bs xs ys d (reads-ended w) in
+        let m : j ≡ length rs + 1 = omega (arith, n, chain-length w) in
+        let g : Fault j (lastOf start rs) (q .left) e = stuck-bytes j (lastOf start rs) (q .left) (subst (FirstOf (q .left)) (q .lines) (first-of (q .left))) f in
+        subst (Faulty bs e) (sym m)
+        (at-line h (q .parts) (omega (arith, chain-counted w (omega arith))) (reads-spelled w) (chain-follows w)
+        (subst (λ (z : ℕ). Fault z (lastOf start rs) (q .left) e) m g))
 
 file-read : {bs : List ℕ} {rs : Rows} → ReadingOf bs rs → fileOf bs ≡ accepted rs
 unfolding fileOf runOf
@@ -163,9 +253,12 @@ file-read {bs} {rs} w =
 faulty-refused : {bs : List ℕ} {e : Refusal} {i : ℕ} → Faulty bs e i → fileOf bs ≡ refused e i
 unfolding fileOf runOf
 faulty-refused {bs} (too-large h) = rw (lt-leb (length bs) maxFile h)
-faulty-refused {bs} (at-line {before = xs} {after = ys} {rs = rs} {e = e} h d w f) =
-    let m : length xs + 1 ≡ 0 + length xs + 1 = omega arith in
-    rw (le-leb (length bs) maxFile h, d) (fault-run w (subst (λ (z : ℕ). Fault z (lastOf start rs) ys e) m f) ∙ ap (refused e) (sym m))
+faulty-refused {bs} (at-line {head = head} {left = left} {rs = rs} {e = e} h d n w g f) =
+    let r : ReadsAs start 0 (linesOf head) rs = spelled-reads rs 0 w refl g (omega arith) in
+    let c : length rs ≡ length (linesOf head) = chain-length r in
+    let m : length rs + 1 ≡ 0 + length (linesOf head) + 1 = omega (arith, c) in
+    rw (le-leb (length bs) maxFile h, d, lines-append head left (reads-ended r))
+    (stuck-run r (bytes-stuck _ (lastOf start rs) left (subst (λ (z : ℕ). Fault z (lastOf start rs) left e) m f)) ∙ ap (refused e) (sym m))
 
 pub file-iff : (bs : List ℕ) (rs : Rows) → (fileOf bs ≡ accepted rs → ReadingOf bs rs) × (ReadingOf bs rs → fileOf bs ≡ accepted rs)
 file-iff bs rs = (λ e. subst (FileSays bs) e (file-sound bs), file-read)

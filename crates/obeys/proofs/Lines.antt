@@ -3,22 +3,25 @@
 use mathlib.Core.Path.{_≡_, refl, sym, ap, _∙_, subst}
 use mathlib.Core.Bool.{Bool, true, false, _&&_, false≢true}
 use mathlib.Core.List.{List, [], _∷_}
-use Prim.Native.Nat.{ℕ}
+use Prim.Native.Nat.{ℕ, _≤_}
 use borrow.Author.Tests.{le-leb, lt-leb, leb-true, leb-false}
 use lib.Dec.{leb, eqb}
 use lib.ListN.{length}
 use lib.IntN.{ℤ}
 use Rattle.lists.proofs.Choice.{cond-all, both}
+use Rattle.runs.specs.Machine.{Out, yields, stops}
 use Rattle.rules.specs.declared.Command.{Command}
 use Rattle.rules.specs.declared.LineAnswer.{LineAnswer}
-use Rattle.rules.specs.Refusals.{forbiddenByte, noSuchForm, outOfRange}
+use Rattle.rules.specs.declared.Refusal.{Refusal}
+use Rattle.rules.specs.Refusals.{lineTooLong, forbiddenByte, noSuchForm, outOfRange}
 use Rattle.rules.specs.Numbers.{maxLine, maxNumber, maxTool, maxPlaces, Decimal, millionths, isCoordinate, coordinateOf, isSize, isTool}
 use Rattle.rules.specs.Lines.{isPrintable}
-use Rattle.rules.specs.Commands.{Form, comment, m48, metric, inch, declare, percent, g05, g00, select, hit, m15, m16, g01, g02, g03, m30, Formed, is, no-form, formOf, says, saysNo, inRange, meaningOf, onForm, commandOf, lineOf}
+use Rattle.rules.specs.Commands.{Form, comment, m48, metric, inch, declare, percent, g05, g00, select, hit, m15, m16, g01, g02, g03, m30, Formed, is, formOf, says, saysNo, inRange, meaningOf, onForm, commandOf, lineOf}
 use Rattle.rules.specs.Spelling.{Spells, Coordinate, coordinate, Size, size, Tool, Means, comment-means, m48-means, metric-means, inch-means, declare-means, percent-means, g05-means, g00-means, select-means, hit-means, m15-means, m16-means, g01-means, g02-means, g03-means, m30-means, Printable, byte, SpellsCommand, SpellsLine}
+use Rattle.rules.specs.Commands as C
 use Rattle.rules.specs.Spelling as S
-use Rattle.obeys.specs.Says.{CommandSays, spells, no-command, LineSays, too-long, forbidden, allowed}
-use Rattle.obeys.specs.Says as A
+use Rattle.rules.specs.Reading.{sayOut}
+use Rattle.obeys.specs.Faults.{LineRefused, too-long, forbidden, no-form, no-command}
 use Rattle.obeys.proofs.Forms.{Sound, form-read, form-sound}
 
 -- ---- ranges
@@ -115,6 +118,12 @@ meaning m30 = means m30-means
 
 -- ---- a line's command
 
+-- what each answer says of a line's bytes: the command; or 5, no form at all; or 7, a form whose numbers mean no command
+data CommandSays (l : List ℕ) : LineAnswer → Type 0 where
+  spells : {c : Command} → SpellsCommand l c → CommandSays l (says c)
+  formless : ((f : Form) → Spells l f → ⊥) → CommandSays l (saysNo noSuchForm)
+  meaningless : {f : Form} → Spells l f → ((c : Command) → Means f c → ⊥) → CommandSays l (saysNo outOfRange)
+
 -- no command has a refusal's number
 not-refused : {a : LineAnswer} {c : Command} → a ≡ says c → eqb (a .refusal .number) 0 ≡ false → ⊥
 not-refused e f = false≢true (sym f ∙ ap (λ a. eqb (a .refusal .number) 0) e)
@@ -125,7 +134,7 @@ command-read w = ap onForm (form-read (w .spelt)) ∙ means-read (w .means)
 
 abbrev HasForm : Formed → Type 0
 HasForm (is f) = Unit {0}
-HasForm no-form = ⊥
+HasForm C.no-form = ⊥
 
 command-sound : (l : List ℕ) → CommandSays l (commandOf l)
 unfolding commandOf
@@ -133,34 +142,30 @@ command-sound l = by (formOf l) refl
   where
     of-form : (f : Form) → Spells l f → (a : LineAnswer) → meaningOf f ≡ a → Meaning f a → CommandSays l a
     of-form f w a e (means m) = spells (record { form = f; spelt = w; means = m })
-    of-form f w a e no-meaning = no-command w (λ c m. not-refused (sym e ∙ means-read m) refl)
+    of-form f w a e no-meaning = meaningless w (λ c m. not-refused (sym e ∙ means-read m) refl)
 
     by : (x : Formed) → formOf l ≡ x → CommandSays l (onForm x)
     by (is f) e = of-form f (subst (Sound l) e (form-sound l)) (meaningOf f) refl (meaning f)
-    by no-form e = A.no-form (λ f w. subst HasForm (sym (form-read w) ∙ e) tt)
+    by C.no-form e = formless (λ f w. subst HasForm (sym (form-read w) ∙ e) tt)
 
 command-answer : {l : List ℕ} {a : LineAnswer} → CommandSays l a → commandOf l ≡ a
 unfolding commandOf
 command-answer (spells w) = command-read w
-command-answer {l} (A.no-form h) = by (formOf l) refl
+command-answer {l} (formless h) = by (formOf l) refl
   where
     by : (x : Formed) → formOf l ≡ x → onForm x ≡ saysNo noSuchForm
     by (is f) e = absurd (h f (subst (Sound l) e (form-sound l)))
-    by no-form e = refl
-command-answer (no-command {f = f} w h) = ap onForm (form-read w) ∙ by (meaningOf f) (meaning f)
+    by C.no-form e = refl
+command-answer (meaningless {f = f} w h) = ap onForm (form-read w) ∙ by (meaningOf f) (meaning f)
   where
     by : (a : LineAnswer) → Meaning f a → a ≡ saysNo outOfRange
     by a (means {c = c} m) = absurd (h c m)
     by a no-meaning = refl
 
--- each answer says what it says, and is given exactly where that is so
-pub command-says : (l : List ℕ) (a : LineAnswer) → (commandOf l ≡ a → CommandSays l a) × (CommandSays l a → commandOf l ≡ a)
-command-says l a = (λ e. subst (CommandSays l) e (command-sound l), command-answer)
-
 says-command : {l : List ℕ} {a : LineAnswer} {c : Command} → CommandSays l a → a ≡ says c → SpellsCommand l c
 says-command {l} (spells w) e = subst (SpellsCommand l) (ap (λ a. a .command) e) w
-says-command (A.no-form h) e = absurd (not-refused e refl)
-says-command (no-command w h) e = absurd (not-refused e refl)
+says-command (formless h) e = absurd (not-refused e refl)
+says-command (meaningless w h) e = absurd (not-refused e refl)
 
 pub command-iff : (l : List ℕ) (c : Command) → (commandOf l ≡ says c → SpellsCommand l c) × (SpellsCommand l c → commandOf l ≡ says c)
 command-iff l c = (λ e. says-command (command-sound l) e, command-read)
@@ -183,33 +188,42 @@ read-printable (b ∷ l) e =
     let g = both (leb 32 b) (leb b 126) (h .0) in
     byte (leb-true 32 b (g .0)) (leb-true b 126 (g .1)) (read-printable l (h .1))
 
-pub line-sound : (l : List ℕ) → LineSays l (lineOf l)
+-- what is said of a line's bytes: the command that they spell, or why they spell none
+abbrev pub LineSays : List ℕ → Out Command Refusal → Type 0
+LineSays l (yields c) = SpellsLine l c
+LineSays l (stops e) = LineRefused l e
+
+allowed : {l : List ℕ} {a : LineAnswer} → length l ≤ maxLine → Printable l → CommandSays l a → LineSays l (sayOut a)
+allowed s p (spells w) = record { short = s; printable = p; command = w }
+allowed s p (formless h) = no-form s p h
+allowed s p (meaningless w h) = no-command s p w h
+
+pub line-sound : (l : List ℕ) → LineSays l (sayOut (lineOf l))
 unfolding lineOf
 line-sound l =
-    cond-all (LineSays l) (leb (length l) maxLine)
-    (λ s. cond-all (LineSays l) (isPrintable l)
+    cond-all (λ a. LineSays l (sayOut a)) (leb (length l) maxLine) {b = saysNo lineTooLong}
+    (λ s. cond-all (λ a. LineSays l (sayOut a)) (isPrintable l) {b = saysNo forbiddenByte}
     (λ p. allowed (leb-true (length l) maxLine s) (read-printable l p) (command-sound l))
     (λ p. forbidden (leb-true (length l) maxLine s) (λ w. false≢true (sym p ∙ printable-read w))))
     (λ s. too-long (leb-false (length l) maxLine s))
 
-pub line-answer : {l : List ℕ} {a : LineAnswer} → LineSays l a → lineOf l ≡ a
+line-answers : {l : List ℕ} {a : LineAnswer} → length l ≤ maxLine → Printable l → CommandSays l a → lineOf l ≡ a
 unfolding lineOf
-line-answer {l} (too-long h) = rw (lt-leb (length l) maxLine h)
-line-answer {l} (forbidden s h) =
-    rw (le-leb (length l) maxLine s)
-    (cond-all (λ a. a ≡ saysNo forbiddenByte) (isPrintable l) (λ p. absurd (h (read-printable l p))) (λ _. refl))
-line-answer {l} (allowed s p w) = rw (le-leb (length l) maxLine s, printable-read p) (command-answer w)
-
-pub line-says : (l : List ℕ) (a : LineAnswer) → (lineOf l ≡ a → LineSays l a) × (LineSays l a → lineOf l ≡ a)
-line-says l a = (λ e. subst (LineSays l) e (line-sound l), line-answer)
-
-pub says-line : {l : List ℕ} {a : LineAnswer} {c : Command} → LineSays l a → a ≡ says c → SpellsLine l c
-says-line (too-long h) e = absurd (not-refused e refl)
-says-line (forbidden s h) e = absurd (not-refused e refl)
-says-line (allowed s p w) e = record { short = s; printable = p; command = says-command w e }
+line-answers {l} s p w = rw (le-leb (length l) maxLine s, printable-read p) (command-answer w)
 
 pub line-read : {l : List ℕ} {c : Command} → SpellsLine l c → lineOf l ≡ says c
-line-read w = line-answer (allowed (w .short) (w .printable) (spells (w .command)))
+line-read w = line-answers (w .short) (w .printable) (spells (w .command))
 
-pub line-iff : (l : List ℕ) (c : Command) → (lineOf l ≡ says c → SpellsLine l c) × (SpellsLine l c → lineOf l ≡ says c)
-line-iff l c = (λ e. says-line (line-sound l) e, line-read)
+refused-line : {l : List ℕ} {e : Refusal} → LineRefused l e → sayOut (lineOf l) ≡ stops e
+unfolding lineOf
+refused-line {l} (too-long h) = rw (lt-leb (length l) maxLine h)
+refused-line {l} (forbidden s h) =
+    rw (le-leb (length l) maxLine s)
+    (cond-all (λ a. sayOut a ≡ stops forbiddenByte) (isPrintable l) (λ p. absurd (h (read-printable l p))) (λ _. refl))
+refused-line (no-form s p h) = ap sayOut (line-answers s p (formless h))
+refused-line (no-command s p w h) = ap sayOut (line-answers s p (meaningless w h))
+
+-- each answer is given exactly where what it says is so
+pub line-says : (l : List ℕ) (o : Out Command Refusal) → (sayOut (lineOf l) ≡ o → LineSays l o) × (LineSays l o → sayOut (lineOf l) ≡ o)
+line-says l (yields c) = (λ e. subst (LineSays l) e (line-sound l), λ w. ap sayOut (line-read w))
+line-says l (stops e) = (λ d. subst (LineSays l) d (line-sound l), refused-line)

@@ -1,8 +1,8 @@
 -- What line i of a file says, and the lines that a spelled line and its end fall into.
-use mathlib.Core.Path.{_≡_, refl, sym, subst}
+use mathlib.Core.Path.{_≡_, refl, sym, ap, _∙_, subst}
 use mathlib.Core.Bool.{Bool, true, false, cond}
 use mathlib.Core.List.{List, [], _∷_, _++_, append-assoc}
-use Prim.Native.Nat.{ℕ}
+use Prim.Native.Nat.{ℕ, _<_, _≤_}
 use native.Mathlib.Omega.{arith}
 use borrow.Author.Tests.{eqb-true, le-leb, lt-leb, leb-true, leb-false}
 use lib.Dec.{eqb, leb}
@@ -13,12 +13,13 @@ use Rattle.rules.specs.declared.Refusal.{Refusal}
 use Rattle.rules.specs.declared.LineAnswer.{LineAnswer}
 use Rattle.rules.specs.Numbers.{maxLines}
 use Rattle.rules.specs.Lines.{LF, CR, Line, linesOf, endsInCR, textOf}
-use Rattle.rules.specs.Commands.{says}
+use Rattle.rules.specs.Commands.{saysNo, lineOf}
+use Rattle.rules.specs.Refusals.{tooManyLines, lineNotEnded}
 use Rattle.rules.specs.Spelling.{Printable, SpellsLine, LineEnd, lf, crlf, SpellsFile, line}
 use Rattle.rules.specs.Reading.{sayOut, answerIn, commandIn}
 use Rattle.laws.proofs.Lines.{printable-without, no-cr, text-plain, cr-last, lineWith, end-line, end-text}
-use Rattle.obeys.specs.Says.{LineInFile, too-many, not-ended, line-says, LineReads}
-use Rattle.obeys.proofs.Lines.{printable-read, line-sound, line-answer, line-read, says-line}
+use Rattle.obeys.specs.Faults.{LineRefused}
+use Rattle.obeys.proofs.Lines.{printable-read, LineSays, line-sound, line-says, line-read}
 
 -- ---- a line's text
 
@@ -36,47 +37,49 @@ text-cut l = by (endsInCR l) refl
 
 -- ---- line i of a file
 
-in-file-sound : (i : ℕ) (l : Line) → LineInFile i l (commandIn i l)
+-- it is a command: it is ended, and its bytes without its end spell that command
+pub record LineReads (i : ℕ) (l : Line) (c : Command) : Type 0 where
+  pub counted : i ≤ maxLines
+  pub ends : l .ended ≡ true
+  pub spelling : SpellsLine (textOf (l .bytes)) c
+
+-- or it is none: 2, there are more lines than allowed; or 3, it is not ended; or its bytes spell none
+pub data LineFault (i : ℕ) (l : Line) : Refusal → Type 0 where
+  beyond : maxLines < i → LineFault i l tooManyLines
+  unended : i ≤ maxLines → l .ended ≡ false → LineFault i l lineNotEnded
+  unread : {e : Refusal} → i ≤ maxLines → l .ended ≡ true → LineRefused (textOf (l .bytes)) e → LineFault i l e
+
+abbrev InFile : ℕ → Line → Out Command Refusal → Type 0
+InFile i l (yields c) = LineReads i l c
+InFile i l (stops e) = LineFault i l e
+
+ended-says : (i : ℕ) (l : Line) (o : Out Command Refusal) → i ≤ maxLines → l .ended ≡ true → LineSays (textOf (l .bytes)) o → InFile i l o
+ended-says i l (yields c) h e w = record { counted = h; ends = e; spelling = w }
+ended-says i l (stops r) h e w = unread h e w
+
+in-file-sound : (i : ℕ) (l : Line) → InFile i l (commandIn i l)
 unfolding commandIn answerIn
 in-file-sound i l =
-    cond-all (λ (a : LineAnswer). LineInFile i l (sayOut a)) (leb i maxLines)
-    (λ h. cond-all (λ (a : LineAnswer). LineInFile i l (sayOut a)) (l .ended)
-    (λ e. line-says (leb-true i maxLines h) e (line-sound (textOf (l .bytes))))
-    (λ e. not-ended (leb-true i maxLines h) e))
-    (λ h. too-many (leb-false i maxLines h))
+    cond-all (λ (a : LineAnswer). InFile i l (sayOut a)) (leb i maxLines) {b = saysNo tooManyLines}
+    (λ h. cond-all (λ (a : LineAnswer). InFile i l (sayOut a)) (l .ended) {b = saysNo lineNotEnded}
+    (λ e. ended-says i l (sayOut (lineOf (textOf (l .bytes)))) (leb-true i maxLines h) e (line-sound (textOf (l .bytes))))
+    (λ e. unended (leb-true i maxLines h) e))
+    (λ h. beyond (leb-false i maxLines h))
 
-in-file-answer : {i : ℕ} {l : Line} {o : Out Command Refusal} → LineInFile i l o → commandIn i l ≡ o
+fault-stops : {i : ℕ} {l : Line} {e : Refusal} → LineFault i l e → commandIn i l ≡ stops e
 unfolding commandIn answerIn
-in-file-answer {i} (too-many h) = rw (lt-leb i maxLines h)
-in-file-answer {i} (not-ended h e) = rw (le-leb i maxLines h, e)
-in-file-answer {i} (line-says h e w) = rw (le-leb i maxLines h, e, line-answer w)
+fault-stops {i} (beyond h) = rw (lt-leb i maxLines h)
+fault-stops {i} (unended h e) = rw (le-leb i maxLines h, e)
+fault-stops {i} {l} (unread {e = r} h e w) =
+    let a : answerIn i l ≡ lineOf (textOf (l .bytes)) = rw (le-leb i maxLines h, e) in
+    ap sayOut a ∙ line-says (textOf (l .bytes)) (stops r) .1 w
 
--- each answer about line i of a file is given exactly where what it says is so
-pub line-in-file : (i : ℕ) (l : Line) (o : Out Command Refusal) → (commandIn i l ≡ o → LineInFile i l o) × (LineInFile i l o → commandIn i l ≡ o)
-line-in-file i l o = (λ e. subst (LineInFile i l) e (in-file-sound i l), in-file-answer)
-
--- something is yielded
-abbrev pub Yields : {A R : Type 0} → Out A R → Type 0
-Yields (yields a) = Unit {0}
-Yields (stops e) = ⊥
-
-out-says : (a : LineAnswer) (c : Command) → sayOut a ≡ yields c → a ≡ says c
-out-says a c = by (eqb (a .refusal .number) 0) refl
-  where
-    by : (t : Bool) → eqb (a .refusal .number) 0 ≡ t → cond t (yields (a .command)) (stops (a .refusal)) ≡ yields c → a ≡ says c
-    by true e f =
-        let n : a .refusal .number ≡ 0 = eqb-true (a .refusal .number) 0 e in
-        let d : a .command ≡ c = cc in
-        λ i. record { refusal = record { number = n i }; command = d i }
-    by false e f = absurd (subst Yields (sym f) tt)
+-- it is refused exactly where it is at fault, and so; and is a command exactly where it reads as one
+pub line-fault : (i : ℕ) (l : Line) (e : Refusal) → (commandIn i l ≡ stops e → LineFault i l e) × (LineFault i l e → commandIn i l ≡ stops e)
+line-fault i l e = (λ d. subst (InFile i l) d (in-file-sound i l), fault-stops)
 
 pub yields-line : (i : ℕ) (l : Line) (c : Command) → commandIn i l ≡ yields c → LineReads i l c
-yields-line i l c e = by (in-file-sound i l) e
-  where
-    by : {o : Out Command Refusal} → LineInFile i l o → o ≡ yields c → LineReads i l c
-    by (too-many h) e = absurd (subst Yields (sym e) tt)
-    by (not-ended h f) e = absurd (subst Yields (sym e) tt)
-    by (line-says {a = a} h f w) e = record { counted = h; ends = f; spelling = says-line w (out-says a c e) }
+yields-line i l c e = subst (InFile i l) e (in-file-sound i l)
 
 pub line-yields : {i : ℕ} {l : Line} {c : Command} → LineReads i l c → commandIn i l ≡ yields c
 unfolding commandIn answerIn

@@ -1,24 +1,25 @@
 -- Where and why a file is refused: at its lowest faulty line, and with that line's own fault. As in Obeys, no reader is in it.
 use mathlib.Core.Path.{_≡_}
 use mathlib.Core.Bool.{true, false}
-use mathlib.Core.List.{List, [], _∷_, _++_}
+use mathlib.Core.List.{List, [], _++_}
 use Prim.Native.Nat.{ℕ, _+_, _<_, _≤_}
 use lib.ListN.{length}
-use Rattle.runs.specs.Machine.{stops, lastOf, Chain}
+use Rattle.runs.specs.Machine.{commandsOf, lastOf, Follows}
 use Rattle.points.specs.declared.Point.{Point}
 use Rattle.points.specs.declared.Arc.{Arc}
 use Rattle.rules.specs.declared.Command.{Command}
 use Rattle.rules.specs.declared.Command.the-variants.{Comment, M48, Metric, Inch, Declare, Percent, G05, G00, Select, Hit, M15, M16, G01, G02, G03, M30}
 use Rattle.rules.specs.declared.State.{State}
 use Rattle.rules.specs.declared.Refusal.{Refusal}
-use Rattle.rules.specs.Refusals.{fileTooLong, wrongPhase, wrongMotion, declaredAlready, notDeclared, noToolSelected, impossibleArc, endsTooSoon}
-use Rattle.rules.specs.Numbers.{maxFile}
-use Rattle.rules.specs.Lines.{Line, linesOf}
+use Rattle.rules.specs.Refusals.{fileTooLong, tooManyLines, lineNotEnded, lineTooLong, forbiddenByte, noSuchForm, outOfRange, wrongPhase, wrongMotion, declaredAlready, notDeclared, noToolSelected, impossibleArc, endsTooSoon}
+use Rattle.rules.specs.Numbers.{maxFile, maxLines, maxLine}
+use Rattle.rules.specs.Lines.{NoLF}
+use Rattle.rules.specs.Commands.{Form}
 use Rattle.tools.specs.Set.{has}
 use Rattle.rules.specs.State.{beforeM48, bareHeader, header, body, over, drill, toolUp, toolDown, noTool, start}
 use Rattle.rules.specs.Reading.{Rows}
 use Rattle.rules.specs.Obeys.{Free, Moving, Possible, Takes}
-use Rattle.obeys.specs.Says.{LineInFile, LineReads}
+use Rattle.rules.specs.Spelling.{Spells, Means, Printable, SpellsLine, FirstLine, SpellsFile}
 
 -- ---- a command that may not come
 
@@ -71,16 +72,28 @@ pub data Untaken (s : State) : Command → Refusal → Type 0 where
   g02-impossible : {a : Arc} → Moving toolDown s → (Possible (s .at) a → ⊥) → Untaken s (G02 a) impossibleArc
   g03-impossible : {a : Arc} → Moving toolDown s → (Possible (s .at) a → ⊥) → Untaken s (G03 a) impossibleArc
 
+-- ---- a line that is no command
+
+-- why a line's bytes, without their end, spell no command: 6, 4, 5 or 7, in this order
+pub data LineRefused (l : List ℕ) : Refusal → Type 0 where
+  too-long : maxLine < length l → LineRefused l lineTooLong
+  forbidden : length l ≤ maxLine → (Printable l → ⊥) → LineRefused l forbiddenByte
+  no-form : length l ≤ maxLine → Printable l → ((f : Form) → Spells l f → ⊥) → LineRefused l noSuchForm
+  no-command : {f : Form} → length l ≤ maxLine → Printable l → Spells l f → ((c : Command) → Means f c → ⊥) → LineRefused l outOfRange
+
 -- ---- a file that is refused
 
--- line i, the first of those left, is no command; or is one that may not come in state p; or is missing
-pub data Fault (i : ℕ) (p : State) : List Line → Refusal → Type 0 where
-  unread : {l : Line} {ls : List Line} {e : Refusal} → LineInFile i l (stops e) → Fault i p (l ∷ ls) e
-  untaken : {l : Line} {ls : List Line} {c : Command} {e : Refusal} → LineReads i l c → Untaken p c e → Fault i p (l ∷ ls) e
-  missing : (p .phase ≡ over → ⊥) → Fault i p [] endsTooSoon
+-- at line i the bytes bs are left, in state p: there is no line, and the run has not ended; or there is one too many; or it isn't
+-- ended; or it is no command; or it is one that may not come
+pub data Fault (i : ℕ) (p : State) (bs : List ℕ) : Refusal → Type 0 where
+  missing : bs ≡ [] → (p .phase ≡ over → ⊥) → Fault i p bs endsTooSoon
+  too-many : (bs ≡ [] → ⊥) → maxLines < i → Fault i p bs tooManyLines
+  not-ended : (bs ≡ [] → ⊥) → i ≤ maxLines → NoLF bs → Fault i p bs lineNotEnded
+  unread : {l rest : List ℕ} {e : Refusal} → i ≤ maxLines → FirstLine bs l rest → LineRefused l e → Fault i p bs e
+  untaken : {l rest : List ℕ} {c : Command} {e : Refusal} → i ≤ maxLines → FirstLine bs l rest → SpellsLine l c → Untaken p c e → Fault i p bs e
 
--- a file is too large; or its first lines read, and the line after them is at fault
+-- a file is too large; or its first lines are as those of a file that obeys, and the line after them is at fault
 pub data Faulty (bs : List ℕ) : Refusal → ℕ → Type 0 where
   too-large : maxFile < length bs → Faulty bs fileTooLong 0
-  at-line : {before after : List Line} {rs : Rows} {e : Refusal} → length bs ≤ maxFile → linesOf bs ≡ before ++ after
-      → Chain LineReads Takes start 0 before rs → Fault (length before + 1) (lastOf start rs) after e → Faulty bs e (length before + 1)
+  at-line : {head left : List ℕ} {rs : Rows} {e : Refusal} → length bs ≤ maxFile → bs ≡ head ++ left → length rs ≤ maxLines
+      → SpellsFile head (commandsOf rs) → Follows Takes start 0 rs → Fault (length rs + 1) (lastOf start rs) left e → Faulty bs e (length rs + 1)

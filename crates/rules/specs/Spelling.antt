@@ -10,7 +10,7 @@ use Rattle.lists.specs.Words.{bytes}
 use Rattle.rules.specs.declared.Command.{Command}
 use Rattle.rules.specs.declared.Command.the-variants.{Comment, M48, Metric, Inch, Declare, Percent, G05, G00, Select, Hit, M15, M16, G01, G02, G03, M30}
 use Rattle.rules.specs.Numbers.{maxLine, maxNumber, maxTool, maxPlaces, Decimal, millionths, withSign}
-use Rattle.rules.specs.Lines.{LF, CR}
+use Rattle.rules.specs.Lines.{LF, CR, NoLF}
 use Rattle.rules.specs.Commands.{Form, comment, m48, metric, inch, declare, percent, g05, g00, select, hit, m15, m16, g01, g02, g03, m30}
 
 -- ---- numbers
@@ -114,6 +114,14 @@ pub record SpellsLine (l : List ℕ) (c : Command) : Type 0 where
 pub data LineEnd : List ℕ → Type 0 where
   lf : LineEnd (LF ∷ [])
   crlf : LineEnd (CR ∷ LF ∷ [])
+
+-- bytes that begin with an ended line: its text, its end, and the bytes after it; a CR right before the LF belongs to the end
+pub record FirstLine (bs text rest : List ℕ) : Type 0 where
+  pub end : List ℕ
+  pub ends : LineEnd end
+  pub parts : bs ≡ text ++ (end ++ rest)
+  pub one-line : NoLF text
+  pub no-cr-left : end ≡ LF ∷ [] → (b : List ℕ) → text ≡ b ++ (CR ∷ []) → ⊥
 
 -- each line ended, to the last
 pub data SpellsFile : List ℕ → List Command → Type 0 where
