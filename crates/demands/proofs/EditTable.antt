@@ -20,11 +20,11 @@ use Rattle.rules.specs.declared.HoleAnswer.the-variants as H
 use Rattle.rules.specs.Refusals.{noSuchLine}
 use Rattle.rules.specs.Numbers.{maxLines}
 use Rattle.rules.specs.State.{start}
-use Rattle.rules.specs.Rows.{rowWidth, tableNumbers}
+use Rattle.rules.specs.Rows.{rowWidth, tableNumbers, Sizes}
 use Rattle.rules.specs.Reading.{Rows}
 use Rattle.rules.specs.Editing.{isLine, noLineEnd, editRows, editOf, editAnswer, editLeaves}
 use Rattle.rules.specs.Asking.{holeIn, holeAnswer}
-use Rattle.laws.proofs.Sizes.{line-says, line-is, Sizes, sizes-fit}
+use Rattle.laws.proofs.Sizes.{line-says, line-is, sizes-fit}
 use Rattle.laws.proofs.InRange.{RowsOk}
 use Rattle.laws.proofs.Entries.{table-length, table-append, entries-table}
 use Rattle.answers.proofs.LineHoles.{hole-first, hole-rest}

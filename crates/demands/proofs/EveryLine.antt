@@ -58,15 +58,15 @@ module _ (bs b rest : List ℕ) (p : bs ≡ b ++ (LF ∷ rest)) (h : NoLF b) whe
 
 -- among lines that are all ended
 line-in : (k : ℕ) (bs : List ℕ) (ls : List Line) → FirstOf bs ls → AllEnded ls → k < length ls
-    → ((rest : List ℕ) → AllEnded (linesOf rest) → k ≤ length (linesOf rest) → LineOf rest k) → LineOf bs (suc k)
+    → ((rest : List ℕ) → AllEnded (linesOf rest) → 1 ≤ k → k ≤ length (linesOf rest) → LineOf rest k) → LineOf bs (suc k)
 line-in k bs [] f h n ih = absurd (omega arith)
 line-in zero bs (l ∷ ls) (ended rest t p f r) h n ih = first bs (l .bytes) rest p f
-line-in (suc k) bs (l ∷ ls) (ended rest t p f r) h n ih = later bs (l .bytes) rest p f (ih rest (rw r (h .1)) (omega (arith, ap length r)))
+line-in (suc k) bs (l ∷ ls) (ended rest t p f r) h n ih = later bs (l .bytes) rest p f (ih rest (rw r (h .1)) (omega arith) (omega (arith, ap length r)))
 line-in k bs (l ∷ ls) (last t m f) h n ih = absurd (false≢true (sym t ∙ h .0))
 
 line-at : (k : ℕ) (bs : List ℕ) → AllEnded (linesOf bs) → k < length (linesOf bs) → LineOf bs (suc k)
-line-at zero bs h n = line-in zero bs (linesOf bs) (first-of bs) h n (λ rest g m. absurd (omega arith))
-line-at (suc k) bs h n = line-in (suc k) bs (linesOf bs) (first-of bs) h n (λ rest g m. line-at k rest g m)
+line-at zero bs h n = line-in zero bs (linesOf bs) (first-of bs) h n (λ rest g j m. absurd (omega arith))
+line-at (suc k) bs h n = line-in (suc k) bs (linesOf bs) (first-of bs) h n (λ rest g j m. line-at k rest g m)
 
 pub every-line : (bs : List ℕ) (rs : Rows) → fileOf bs ≡ accepted rs → (k : ℕ) → 1 ≤ k → k ≤ length rs → LineOf bs k
 every-line bs rs h k a b =

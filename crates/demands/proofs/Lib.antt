@@ -12,3 +12,5 @@ pub mod WriteBack
 pub mod WalkStops
 pub mod WriteRefused
 pub mod GoodExactly
+pub mod HoleRefused
+pub mod EditRefused

@@ -6,5 +6,7 @@ pub mod GoodTable
 pub mod WriteBack
 pub mod WriteRefused
 pub mod GoodExactly
+pub mod HoleRefused
+pub mod EditRefused
 pub mod OneSpelling
 pub mod DiametersStand

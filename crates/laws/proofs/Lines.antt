@@ -63,6 +63,11 @@ module _ where
   new-no-cr [] h = tt
   new-no-cr (b ∷ l) h = let t = tests b l h in (t .1, new-no-cr l (t .2))
 
+  pub no-line-end : (l : List ℕ) → NoLF l → NoByte CR l → noLineEnd l ≡ true
+  unfolding noLineEnd
+  no-line-end [] g h = refl
+  no-line-end (b ∷ l) g h = rw (ne-eqb b LF (g .0), ne-eqb b CR (h .0)) (no-line-end l (g .1) (h .1))
+
 -- ---- a line's text
 
 pub no-cr : (l : List ℕ) → NoByte CR l → endsInCR l ≡ false

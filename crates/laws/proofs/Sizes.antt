@@ -10,7 +10,7 @@ use lib.IntN.{ℤ}
 use lib.ListN.{length}
 use Rattle.lists.proofs.Choice.{both}
 use Rattle.rules.specs.Numbers.{maxLines}
-use Rattle.rules.specs.Rows.{rowWidth, sizesFit}
+use Rattle.rules.specs.Rows.{rowWidth, sizesFit, Sizes}
 use Rattle.rules.specs.Reading.{hasRoom}
 use Rattle.rules.specs.Editing.{isLine}
 
@@ -22,11 +22,6 @@ module _ (n k : ℕ) where
   pub line-is : 1 ≤ k → k ≤ n → isLine n k ≡ true
   unfolding isLine
   line-is a b = rw (le-leb 1 k a, le-leb k n b)
-
-pub record Sizes (t : List ℤ) (n : ℕ) : Type 0 where
-  pub some : 1 ≤ n
-  pub few : n ≤ maxLines
-  pub room : rowWidth * n ≤ length t
 
 module _ (t : List ℤ) (n : ℕ) where
   pub sizes-fit : Sizes t n → sizesFit t n ≡ true

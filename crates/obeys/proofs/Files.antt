@@ -34,14 +34,14 @@ use Rattle.obeys.proofs.Split.{LineReads, LineFault, beyond, unended, l
 
 -- ---- one command
 
-taken-takes : (p : State) (c : Command) (q : State) → taken p c ≡ yields q → Takes p c q
+pub taken-takes : (p : State) (c : Command) (q : State) → taken p c ≡ yields q → Takes p c q
 taken-takes p c q e = step-iff p c q .0 (by (step p c) e)
   where
     by : (n : Next) → outOf n ≡ yields q → n ≡ To q
     by (To s) e = let f : s ≡ q = cc in ap To f
     by (No r) e = absurd (let z : _≡_ {A = ℕ} 0 1 = cc in omega arith)
 
-takes-taken : {p q : State} {c : Command} → Takes p c q → taken p c ≡ yields q
+pub takes-taken : {p q : State} {c : Command} → Takes p c q → taken p c ≡ yields q
 takes-taken {p} {q} {c} w = ap outOf (step-iff p c q .1 w)
 
 pub taken-refused : (p : State) (c : Command) (e : Refusal) → taken p c ≡ stops e → Untaken p c e
@@ -51,7 +51,7 @@ taken-refused p c e d = refused-iff p c e .0 (by (step p c) d)
     by (To s) d = absurd (let z : _≡_ {A = ℕ} 0 1 = cc in omega arith)
     by (No r) d = let f : r ≡ e = cc in ap No f
 
-refused-taken : {p : State} {c : Command} {e : Refusal} → Untaken p c e → taken p c ≡ stops e
+pub refused-taken : {p : State} {c : Command} {e : Refusal} → Untaken p c e → taken p c ≡ stops e
 refused-taken {p} {c} {e} w = ap outOf (refused-iff p c e .1 w)
 
 -- ---- a run of lines: how it ends

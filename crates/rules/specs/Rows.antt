@@ -2,7 +2,7 @@
 use mathlib.Core.Path.{_≡_}
 use mathlib.Core.Bool.{Bool, true, false, cond, _&&_}
 use mathlib.Core.List.{List, [], _∷_, _++_}
-use Prim.Native.Nat.{ℕ, zero, suc, _+_, _*_, _/_, _%_}
+use Prim.Native.Nat.{ℕ, zero, suc, _+_, _*_, _/_, _%_, _≤_}
 use lib.Dec.{leb, eqb}
 use lib.IntN.{ℤ, pos, negsuc, natAbs}
 use lib.ListN.{length, getD, take, drop}
@@ -174,6 +174,12 @@ tableRoom = rowWidth * maxLines
 -- the lent numbers can hold n rows, and n is 1 to 1,000
 unfoldable pub sizesFit : List ℤ → ℕ → Bool
 sizesFit t n = leb 1 n && (leb n maxLines && leb n (length t / rowWidth))
+
+-- the same as a relation
+pub record Sizes (t : List ℤ) (n : ℕ) : Type 0 where
+  pub some : 1 ≤ n
+  pub few : n ≤ maxLines
+  pub room : rowWidth * n ≤ length t
 
 -- a good table, and its rows
 pub record Good (t : List ℤ) (n : ℕ) (rs : List (M.Row Command State)) : Type 0 where

@@ -1,4 +1,5 @@
 pub mod Ways
+pub mod Unmet
 pub mod Chains
 pub mod Append
 pub mod Agree

@@ -1,6 +1,6 @@
 -- Two runs compared: the state after a line, and the first line after which the states of both agree.
 use mathlib.Core.Path.{_≡_}
-use mathlib.Core.List.{List}
+use mathlib.Core.List.{List, [], _∷_}
 use Prim.Native.Nat.{ℕ, _<_, _≤_}
 use lib.ListN.{length, take}
 use Rattle.runs.specs.Machine.{Row, lastOf}
@@ -15,3 +15,9 @@ pub record FirstAgreement {C S : Type 0} (p : S) (old new : List (Row C S)) (k m
   pub upto : m ≤ length old
   pub differ : (j : ℕ) → k ≤ j → j < m → stateAfter p old j ≡ stateAfter p new j → ⊥
   pub agrees : m < length old → stateAfter p old m ≡ stateAfter p new m
+
+-- old rows rerun from state p as new ones, without agreement: each command is taken again, and no state is the one that stands there
+pub data Unmet {C S : Type 0} (Takes : S → C → S → Type 0) : S → List (Row C S) → List (Row C S) → Type 0 where
+  nothing : {p : S} → Unmet Takes p [] []
+  further : {p q : S} {r : Row C S} {old new : List (Row C S)} → Takes p (r .command) q → (q ≡ r .state → ⊥) → Unmet Takes q old new
+      → Unmet Takes p (r ∷ old) (record { command = r .command; state = q } ∷ new)

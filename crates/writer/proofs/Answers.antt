@@ -15,10 +15,10 @@ use Rattle.rules.specs.declared.Answer.{Answer}
 use Rattle.rules.specs.declared.Answer.the-variants.{Done, Refused}
 use Rattle.rules.specs.Refusals.{badTable, noRoom}
 use Rattle.rules.specs.State.{start}
-use Rattle.rules.specs.Rows.{entriesOf, sizesFit}
+use Rattle.rules.specs.Rows.{entriesOf, sizesFit, Sizes}
 use Rattle.rules.specs.Reading.{Rows}
 use Rattle.rules.specs.Writing.{textOfRows, followFrom, rowsOf, inBlock, withText, writeAnswer, writeLeaves}
-use Rattle.laws.proofs.Sizes.{Sizes, sizes-say}
+use Rattle.laws.proofs.Sizes.{sizes-say}
 use Rattle.writer.specs.Walk.{bytesFrom, textOfEntries}
 use Rattle.writer.proofs.Walk.{text-follows}
 
