@@ -14,3 +14,4 @@ pub mod WriteRefused
 pub mod GoodExactly
 pub mod HoleRefused
 pub mod EditRefused
+pub mod OneSpelling

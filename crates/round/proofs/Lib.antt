@@ -1,3 +1,5 @@
 pub mod Numbers
 pub mod Lines
 pub mod Files
+pub mod OneNumber
+pub mod OneText

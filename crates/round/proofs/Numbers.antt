@@ -24,7 +24,7 @@ digit-yes : (d : ℕ) → d < 10 → isDigit (48 + d) ≡ true
 unfolding isDigit
 digit-yes d h = rw (le-leb 48 (48 + d) (omega arith), le-leb (48 + d) 57 (omega arith))
 
-value-more : (k m : ℕ) → m / 10 ^ k % 10 * 10 ^ k + m % 10 ^ k ≡ m % 10 ^ suc k
+pub value-more : (k m : ℕ) → m / 10 ^ k % 10 * 10 ^ k + m % 10 ^ k ≡ m % 10 ^ suc k
 value-more k m = rw (pow-succ' 10 k) (sym (mod-mul m {m = 10} {c = 10 ^ k} (omega arith) (one-le-pow k 10 (omega arith))))
 
 pub digits-back : (k m : ℕ) (rest : List ℕ) → NoDigit rest → digitsOf (lastDigits k m ++ rest) ≡ record { value = m % 10 ^ k; count = k; rest = rest }
@@ -83,25 +83,26 @@ placesIn v = placesOf (v % 1000000)
 abbrev pub written : Bool → ℕ → Decimal
 written neg v = record { negative = neg; digits = v / 10 ^ (6 - placesIn v); places = placesIn v }
 
--- w whole units and f millionths, of which d decimals are written
-module _ (w f d : ℕ) (hf : f < 1000000) (h : Places f d) where
-  split : 10 ^ d * 10 ^ (6 - d) ≡ 1000000
-  split = let e : d + (6 - d) ≡ 6 = omega (arith, h .most) in sym (pow-add 10 d (6 - d)) ∙ ap (λ (n : ℕ). 10 ^ n) e
+-- a unit in parts of d decimals, and such a part in millionths
+pub unit-parts : (d : ℕ) → d ≤ 6 → 10 ^ d * 10 ^ (6 - d) ≡ 1000000
+unit-parts d h = let e : d + (6 - d) ≡ 6 = omega arith in sym (pow-add 10 d (6 - d)) ∙ ap (λ (n : ℕ). 10 ^ n) e
 
-  decimals-fit : f / 10 ^ (6 - d) < 10 ^ d
-  decimals-fit = div-lt-iff-lt-mul (one-le-pow (6 - d) 10 (omega arith)) .1 (omega (arith, split))
+-- f millionths, of which d decimals are written, after w whole units
+module _ (f d : ℕ) (hf : f < 1000000) (h : Places f d) where
+  pub decimals-fit : f / 10 ^ (6 - d) < 10 ^ d
+  decimals-fit = div-lt-iff-lt-mul (one-le-pow (6 - d) 10 (omega arith)) .1 (omega (arith, unit-parts d (h .most)))
 
-  joined : (w * 10 ^ d + f / 10 ^ (6 - d)) * 10 ^ (6 - d) ≡ w * 1000000 + f
-  joined =
+  joined : (w : ℕ) → (w * 10 ^ d + f / 10 ^ (6 - d)) * 10 ^ (6 - d) ≡ w * 1000000 + f
+  joined w =
       add-mul (w * 10 ^ d) (f / 10 ^ (6 - d)) (10 ^ (6 - d))
-      ∙ ap₂ _+_ (mul-assoc w (10 ^ d) (10 ^ (6 - d)) ∙ ap (λ (n : ℕ). w * n) split) (omega (arith, div-add-mod' f (10 ^ (6 - d)), h .exact))
+      ∙ ap₂ _+_ (mul-assoc w (10 ^ d) (10 ^ (6 - d)) ∙ ap (λ (n : ℕ). w * n) (unit-parts d (h .most))) (omega (arith, div-add-mod' f (10 ^ (6 - d)), h .exact))
 
 module _ (v : ℕ) where
   below : v % 1000000 < 1000000
   below = mod-lt v (omega arith)
 
   parts : (v / 1000000 * 10 ^ placesIn v + v % 1000000 / 10 ^ (6 - placesIn v)) * 10 ^ (6 - placesIn v) ≡ v
-  parts = joined (v / 1000000) (v % 1000000) (placesIn v) below (places-is (v % 1000000)) ∙ div-add-mod' v 1000000
+  parts = joined (v % 1000000) (placesIn v) below (places-is (v % 1000000)) (v / 1000000) ∙ div-add-mod' v 1000000
 
   digits-are : v / 1000000 * 10 ^ placesIn v + v % 1000000 / 10 ^ (6 - placesIn v) ≡ v / 10 ^ (6 - placesIn v)
   digits-are =
@@ -150,7 +151,7 @@ module _ (neg : Bool) (v : ℕ) (rest : List ℕ) (h : v ≤ maxNumber) (e : NoD
         digits-back (placesIn v) m rest e,
         ne-eqb (n + placesIn v) 0 (omega (arith, wide .some)),
         mod-eq-of-lt (wide .holds),
-        mod-eq-of-lt (decimals-fit (v / 1000000) (v % 1000000) (placesIn v) (below v) (places-is (v % 1000000))),
+        mod-eq-of-lt (decimals-fit (v % 1000000) (placesIn v) (below v) (places-is (v % 1000000))),
         digits-are v,
       )
 
