@@ -1,5 +1,5 @@
--- Demand 2, reading. A file is accepted exactly where it obeys and refused exactly where it is faulty (crate obeys); what
--- is left here is the room, and that rows written into numbers are found there again.
+-- Demand 2. A file is accepted exactly where it obeys and refused exactly where it is faulty (crate obeys); what
+-- is left here is the room, and that rows written into numbers are found there again. Writing is in WriteBack.
 use mathlib.Core.Path.{_≡_, refl, sym, ap, _∙_, subst₂}
 use mathlib.Core.Bool.{Bool, true, false, false≢true, cond}
 use mathlib.Core.List.{List}
@@ -23,6 +23,7 @@ use Rattle.answers.proofs.Refused.{faulty-told}
 use Rattle.answers.proofs.LineHoles.{good-hole}
 use Rattle.answers.proofs.AcceptedFile.{file-few, read-done, read-accepts, read-writes, read-short, read-refuses}
 use Rattle.answers.proofs.GoodTables.{file-table}
+use Rattle.demands.proofs.WriteBack.{write-back}
 use Rattle.demands.specs.Demand2.{HoldsReading, ReadRefused, faulty, short, ReadsRight, Demand2}
 
 module _ (bs : List ℕ) (t : List ℤ) where
@@ -87,4 +88,4 @@ module _ (bs : List ℕ) (t : List ℤ) where
   }
 
 pub demand-2 : Demand2
-demand-2 = record { reads = reads-right }
+demand-2 = record { reads = reads-right; writes-back = write-back }

@@ -2,7 +2,7 @@
 -- edit's rerun does, and from the meeting line on is the old reading: equal states, equal lines left.
 use mathlib.Core.Path.{_≡_, refl, sym, ap, _∙_, subst₂}
 use mathlib.Core.Bool.{true}
-use mathlib.Core.List.{List, _++_}
+use mathlib.Core.List.{List, [], _++_}
 use Prim.Native.Nat.{ℕ, _+_, _-_, _*_, _≤_}
 use native.Mathlib.Omega.{arith}
 use lib.IntN.{ℤ}
@@ -20,8 +20,9 @@ use Rattle.rules.specs.Reading.{Rows, fileOf, readAnswer, readLeaves}
 use Rattle.rules.specs.Editing.{noLineEnd, editRows, editAnswer, editLeaves}
 use Rattle.laws.proofs.Entries.{table-length}
 use Rattle.demands.specs.EditedFile.{LineOf, edited}
-use Rattle.demands.specs.Demand3.{SameVerdict, SpanIs, AsReadAfresh}
+use Rattle.demands.specs.Demand3.{SameVerdict, SpanIs, AsReadAfresh, Demand3}
 use Rattle.answers.proofs.AcceptedFile.{read-done, file-run, file-of, file-few, file-ok, read-accepts, read-writes, read-refuses}
+use Rattle.demands.proofs.EveryLine.{every-line, one-edited}
 use Rattle.demands.proofs.EditRows.{edit-agreement}
 use Rattle.demands.proofs.EditIsReading.{withSpan, edit-is-reading, line-from, line-upto}
 use Rattle.demands.proofs.EditTable.{table-again, edit-refuses, edit-accepts, edit-writes, new-length, same-outside}
@@ -81,11 +82,26 @@ module _ {bs : List ℕ} {k : ℕ} (w : LineOf bs k) (rs : Rows) (read : fileOf 
   unfolding AsAfresh
   whole = let a = as-afresh (editRows (allHold rs) k l) refl in record { verdict = a .0; table = a .1; span = a .2 }
 
--- line k of an accepted file gets the text l, which holds no line end, and the file stays short enough
-pub demand-3 : (bs : List ℕ) (t : List ℤ) (n : ℕ) → readAnswer bs t ≡ Done n → {k : ℕ} (w : LineOf bs k) (l : List ℕ) → noLineEnd l ≡ true
-    → length (edited w l) ≤ maxFile → AsReadAfresh bs (edited w l) (readLeaves bs t) n k l
-demand-3 bs t n h {k} w l hl hb =
-    let d = read-done bs t n h in
-    subst₂ (λ (u : List ℤ) (m : ℕ). AsReadAfresh bs (edited w l) u m k l)
-    (sym (read-writes bs t (d .rows) (d .read) (d .room))) (d .counted)
-    (whole w (d .rows) (d .read) l hl hb (drop (0 + length (tableNumbers (d .rows))) t))
+-- ---- a file that was read
+
+module _ (bs : List ℕ) (t : List ℤ) (n : ℕ) (h : readAnswer bs t ≡ Done n) where
+  line : (k : ℕ) → 1 ≤ k → k ≤ n → LineOf bs k
+  line k a b = let d = read-done bs t n h in every-line bs (d .rows) (d .read) k a (omega (arith, d .counted))
+
+  -- a line's number is told by an edit of it, the empty text for one
+  no-other : (k : ℕ) → LineOf bs k → (1 ≤ k) × (k ≤ n)
+  unfolding noLineEnd
+  no-other k w =
+      let d = read-done bs t n h in
+      let r = file-run bs (d .rows) (d .read) in
+      (line-from w (d .rows) r [] refl, omega (arith, line-upto w (d .rows) r [] refl, d .counted))
+
+  as-read : (k : ℕ) (w : LineOf bs k) (l : List ℕ) → noLineEnd l ≡ true → length (edited w l) ≤ maxFile → AsReadAfresh bs (edited w l) (readLeaves bs t) n k l
+  as-read k w l hl hb =
+      let d = read-done bs t n h in
+      subst₂ (λ (u : List ℤ) (m : ℕ). AsReadAfresh bs (edited w l) u m k l)
+      (sym (read-writes bs t (d .rows) (d .read) (d .room))) (d .counted)
+      (whole w (d .rows) (d .read) l hl hb (drop (0 + length (tableNumbers (d .rows))) t))
+
+pub demand-3 : Demand3
+demand-3 = record { every-line = line; no-other = no-other; one-edited = λ bs k v w l h. one-edited v w l h; as-read-afresh = as-read }

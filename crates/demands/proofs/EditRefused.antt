@@ -29,7 +29,7 @@ use Rattle.rules.specs.Editing.{isLine, noLineEnd, stateIn, beforeLine, onBefor
 use Rattle.rules.specs.Spelling.{SpellsLine}
 use Rattle.rules.specs.Obeys.{Takes}
 use Rattle.rules.proofs.Same.{same-state-iff}
-use Rattle.laws.proofs.Sizes.{line-is, sizes-fit, sizes-say}
+use Rattle.laws.proofs.Sizes.{line-is, sizes-fit, sizes-say, bad-sizes, sizes-bad}
 use Rattle.laws.proofs.Lines.{new-no-lf, new-no-cr, no-line-end}
 use Rattle.laws.proofs.Entries.{entries-length}
 use Rattle.obeys.specs.Faults.{LineRefused}
@@ -37,7 +37,7 @@ use Rattle.obeys.proofs.Lines.{LineSays, line-sound, line-says}
 use Rattle.obeys.proofs.Files.{taken-takes, takes-taken, taken-refused, refused-taken}
 use Rattle.demands.specs.HoleRefused.{LineOfTable, rowAt, StateBefore}
 use Rattle.demands.specs.EditRefused.{NoLineEnd, Edits, rowsFrom, Stops, bad-row, untaken, too-soon, EditRefused, sizes, no-line, line-end, row-before, row-itself, new-line, rows, Meets, agree, last, EditRefusedExactly}
-use Rattle.demands.proofs.HoleRefused.{bad-sizes, sizes-bad, line-of, no-line-of, line-not, BeforeIs, before-is, is-before, bad-before}
+use Rattle.demands.proofs.HoleRefused.{line-of, no-line-of, line-not, BeforeIs, before-is, is-before, bad-before}
 
 -- ---- a line end
 
@@ -151,13 +151,13 @@ module _ (t : List ℤ) (n k : ℕ) (l : List ℕ) where
       (λ e. let a = line-of t n k s h in before-told a (end-free l e) (beforeLine k (rowAt t n (k - 1))) (before-is t n k (a .from)))
       (λ e. line-end (line-of t n k s h) (λ f. false≢true (sym e ∙ free-end f))))
       (λ h. no-line (sizes-say t n s) (no-line-of t n k h)))
-      (λ s. sizes (bad-sizes t n k s))
+      (λ s. sizes (bad-sizes t n s))
 
   -- ---- and the other way
 
   refused-edit : {e : Refusal} {i : ℕ} → EditRefused t n k l e i → editOf t n k l ≡ refused e i
   unfolding editOf editRows EndsAt
-  refused-edit (sizes h) = rw (sizes-bad t n k h)
+  refused-edit (sizes h) = rw (sizes-bad t n h)
   refused-edit (no-line z h) = rw (sizes-fit t n z, line-not t n k z h)
   refused-edit (line-end a h) = rw (sizes-fit t n (a .sizes), line-is n k (a .from) (a .upto), holds-end l h)
   refused-edit (row-before a b h d) = rw (sizes-fit t n (a .sizes), line-is n k (a .from) (a .upto), free-end b, bad-before t n k h d)

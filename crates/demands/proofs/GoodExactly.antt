@@ -13,7 +13,7 @@ use Rattle.laws.proofs.Entries.{table-length}
 use Rattle.round.specs.Comments.{textWithComments}
 use Rattle.round.proofs.Files.{commented-file-back}
 use Rattle.demands.specs.GoodTable.{GoodTable}
-use Rattle.demands.specs.GoodExactly.{ReadTo}
+use Rattle.demands.specs.GoodExactly.{GoodExactly}
 use Rattle.answers.proofs.AcceptedFile.{read-done, read-accepts, read-writes}
 use Rattle.answers.proofs.GoodTables.{file-table, good-whole}
 
@@ -38,8 +38,8 @@ read-good bs t n h =
           (file-table bs (d .rows) (d .read) (drop (0 + length (tableNumbers (d .rows))) t));
     }
 
-pub good-exactly : (t : List ℤ) (n : ℕ) → (GoodTable t n → ReadTo t n) × (ReadTo t n → GoodTable t n)
-good-exactly t n = (
-  λ w. let r = good-read t n (w .rows) (w .good) in record { file = textWithComments (w .rows); lent = t; answer = r .0; table = r .1 },
-  λ w. subst (λ (u : List ℤ). GoodTable u n) (w .table) (read-good (w .file) (w .lent) n (w .answer)),
-)
+pub good-exactly : GoodExactly
+good-exactly = record {
+  good-read = λ t n w. let r = good-read t n (w .rows) (w .good) in record { file = textWithComments (w .rows); lent = t; answer = r .0; table = r .1 };
+  read-good = λ t n w. subst (λ (u : List ℤ). GoodTable u n) (w .table) (read-good (w .file) (w .lent) n (w .answer));
+}

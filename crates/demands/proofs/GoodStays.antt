@@ -24,6 +24,7 @@ use Rattle.answers.proofs.Places.{around-line}
 use Rattle.answers.proofs.GoodTables.{rows-table, good-whole}
 use Rattle.answers.proofs.EditSpan.{edit-tests, edit-done}
 use Rattle.demands.specs.GoodTable.{GoodTable}
+use Rattle.demands.specs.GoodStays.{GoodStays}
 use Rattle.demands.proofs.EditRows.{edit-made, edit-follows}
 use Rattle.demands.proofs.EditTable.{edit-writes, new-length}
 
@@ -60,8 +61,8 @@ module _ (rs : Rows) (rest : List ℤ) (ok : RowsOk rs) (few : length rs ≤ max
       (sym (edit-writes rs rest ok few k a b l hl s h)) n
       (rows-table new rest (edit-ok rs k a b l s ok h) (omega (arith, n)) (g .follows) (g .ends))
 
-pub good-stays : (t : List ℤ) (n : ℕ) (rs : Rows) → Good t n rs → (k : ℕ) (l : List ℕ) (m : ℕ) → editAnswer t n k l ≡ Done m → GoodTable (editLeaves t n k l) n
-good-stays t n rs g k l m h =
+edited-good : (t : List ℤ) (n : ℕ) (rs : Rows) → Good t n rs → (k : ℕ) (l : List ℕ) (m : ℕ) → editAnswer t n k l ≡ Done m → GoodTable (editLeaves t n k l) n
+edited-good t n rs g k l m h =
     let d = edit-done t n k l m h in
     let e = edit-tests t n k l (d .span) (d .verdict) in
     let w = good-whole t n rs g in
@@ -72,3 +73,6 @@ good-stays t n rs g k l m h =
       good = subst₂ (λ (u : List ℤ) (j : ℕ). Good (editLeaves u j k l) j (putAt rs (k - 1) (d .span .rows))) (sym (w .numbers)) (w .count)
           (left-good rs (drop (rowWidth * n) t) (w .rows .in-range) (w .rows .count) (g .follows) (g .ends) k (p .0) (omega (arith, w .count, p .1)) l (e .no-end) (d .span) made);
     }
+
+pub good-stays : GoodStays
+good-stays = record { stays = λ t n w. edited-good t n (w .rows) (w .good) }

@@ -22,22 +22,12 @@ use Rattle.rules.specs.Rows.{entriesOf, sizesFit, Sizes}
 use Rattle.rules.specs.Holes.{holeOf}
 use Rattle.rules.specs.Editing.{isLine, entryAt, stateIn, beforeLine, onBefore}
 use Rattle.rules.specs.Asking.{onRow, holeIn, holeAnswer}
-use Rattle.laws.proofs.Sizes.{line-says, line-is, sizes-fit, sizes-say}
+use Rattle.laws.proofs.Sizes.{line-says, line-is, sizes-fit, sizes-say, bad-sizes, sizes-bad}
 use Rattle.laws.proofs.Ways.{hole-all}
 use Rattle.demands.specs.HoleRefused.{LineOfTable, rowAt, StateBefore, first, after, HoleRefused, sizes, no-line, row-before, row-itself, HoleRefusedExactly}
 
 module _ (t : List ℤ) (n k : ℕ) where
   -- ---- the tests before a row is looked at
-
-  pub bad-sizes : sizesFit t n ≡ false → Sizes t n → ⊥
-  bad-sizes h z = false≢true (sym h ∙ sizes-fit t n z)
-
-  pub sizes-bad : (Sizes t n → ⊥) → sizesFit t n ≡ false
-  sizes-bad h = by (sizesFit t n) refl
-    where
-      by : (b : Bool) → sizesFit t n ≡ b → sizesFit t n ≡ false
-      by true e = absurd (h (sizes-say t n e))
-      by false e = e
 
   pub line-of : sizesFit t n ≡ true → isLine n k ≡ true → LineOfTable t n k
   line-of s h = let p = line-says n k h in record { sizes = sizes-say t n s; from = p .0; upto = p .1 }
@@ -103,7 +93,7 @@ module _ (t : List ℤ) (n k : ℕ) where
       (λ s. cond-all HoleSays (isLine n k) {b = Refused noSuchLine 0}
       (λ h. let w = line-of s h in before-says w (beforeLine k (rowAt t n (k - 1))) (before-is (w .from)))
       (λ h. no-line (sizes-say t n s) (no-line-of h)))
-      (λ s. sizes (bad-sizes s))
+      (λ s. sizes (bad-sizes t n s))
 
   -- ---- and the other way
 
@@ -113,7 +103,7 @@ module _ (t : List ℤ) (n k : ℕ) where
 
   so-refused : {e : Refusal} {i : ℕ} → HoleRefused t n k e i → holeAnswer t n k ≡ Refused e i
   unfolding holeAnswer holeIn
-  so-refused (sizes h) = rw (sizes-bad h)
+  so-refused (sizes h) = rw (sizes-bad t n h)
   so-refused (no-line z h) = rw (sizes-fit t n z, line-not z h)
   so-refused (row-before w h d) = at-line w ∙ rw (bad-before h d)
   so-refused (row-itself w s d) = at-line w ∙ rw (is-before s, d)

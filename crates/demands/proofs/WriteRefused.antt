@@ -17,7 +17,8 @@ use Rattle.rules.specs.State.{start}
 use Rattle.rules.specs.Rows.{entriesOf, sizesFit, Good}
 use Rattle.rules.specs.Reading.{Rows}
 use Rattle.rules.specs.Writing.{textOfRows, followFrom, rowsOf, inBlock, writeAnswer}
-use Rattle.demands.specs.WriteRefused.{WriteRefused, sizes, rows, short, IsWritten, WritesExactly}
+use Rattle.laws.proofs.Sizes.{sizes-fit, sizes-say, bad-sizes, sizes-bad}
+use Rattle.demands.specs.WriteRefused.{WriteRefused, sizes, rows, short, IsWritten, WritesExactly, WriteExactly}
 use Rattle.demands.proofs.WalkStops.{Stopped, walk-stops, stops-walk}
 use Rattle.answers.proofs.Refused.{Told, rows-told}
 use Rattle.answers.proofs.WrittenTable.{good-rows, rows-good, write-accepts, write-short, write-done}
@@ -43,11 +44,11 @@ module _ (t : List ℤ) (n : ℕ) (b : List ℕ) where
     bad-rows : (c : Bool) → sizesFit t n ≡ c → cond c (followFrom start (entriesOf n t) 0) (refused badTable 0) ≡ refused e i → WriteRefused t n b e i
     bad-rows true f h =
         let s = subst (Stopped start 0 (entriesOf n t)) h (walk-stops (entriesOf n t) start 0) in
-        subst (λ (a : Refusal). WriteRefused t n b a i) (sym (s .0)) (rows f (s .1))
+        subst (λ (a : Refusal). WriteRefused t n b a i) (sym (s .0)) (rows (sizes-say t n f) (s .1))
     bad-rows false f h =
         let p : badTable ≡ e = cc in
         let q : 0 ≡ i = cc in
-        subst₂ (WriteRefused t n b) p q (sizes f)
+        subst₂ (WriteRefused t n b) p q (sizes (bad-sizes t n f))
 
     why : (v : Verdict Rows Refusal) → rowsOf t n ≡ v → onVerdict v Refused (λ rs. inBlock b (textOfRows rs)) ≡ Refused e i → WriteRefused t n b e i
     unfolding rowsOf
@@ -59,8 +60,8 @@ module _ (t : List ℤ) (n : ℕ) (b : List ℕ) where
 
   so-refused : {e : Refusal} {i : ℕ} → WriteRefused t n b e i → writeAnswer t n b ≡ Refused e i
   unfolding writeAnswer rowsOf
-  so-refused (sizes f) = rw f
-  so-refused (rows f w) = rw (f, stops-walk w)
+  so-refused (sizes f) = rw (sizes-bad t n f)
+  so-refused (rows f w) = rw (sizes-fit t n f, stops-walk w)
   so-refused (short {rs = rs} g h) = write-short t n b rs (good-rows t n rs g) h
 
   -- ---- 18 exactly where the table isn't good
@@ -83,11 +84,14 @@ module _ (t : List ℤ) (n : ℕ) (b : List ℕ) where
   unfolding writeAnswer
   written rs g i h = not-18 (length (textOfRows rs)) i (leb (length (textOfRows rs)) (length b)) (rw (good-rows t n rs g) at h)
 
-  pub write-exactly : WritesExactly t n b
+  writes : WritesExactly t n b
   unfolding writeAnswer
-  write-exactly = record {
+  writes = record {
     done = λ m. (done m, so-done m);
     refused = λ e i. (λ h. why e i (rowsOf t n) refl h, so-refused);
     not-good = unwritten (rowsOf t n) refl;
     not-bad = written;
   }
+
+pub write-exactly : WriteExactly
+write-exactly = record { writes = writes }

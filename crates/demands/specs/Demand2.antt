@@ -1,5 +1,6 @@
--- Demand 2, reading: a file is accepted exactly where it obeys, and its table holds the rows of its one reading, each line
--- with its hole; it is refused exactly at its lowest faulty line. The other half is in specs/WriteBack.antt.
+-- Demand 2. A file is accepted exactly where it obeys, and its table holds the rows of its one reading, each line with its
+-- hole; it is refused exactly at its lowest faulty line. A good table that is written and read back gives that table without
+-- its comment rows.
 use mathlib.Core.Path.{_≡_}
 use mathlib.Core.List.{List}
 use Prim.Native.Nat.{ℕ, _*_, _<_, _≤_}
@@ -16,6 +17,7 @@ use Rattle.rules.specs.Obeys.{ReadingOf, Obeys}
 use Rattle.rules.specs.Holes.{holeOf}
 use Rattle.rules.specs.Asking.{holeAnswer}
 use Rattle.obeys.specs.Faults.{Faulty}
+use Rattle.demands.specs.WriteBack.{WritesBack}
 
 -- the bytes bs, whose reading is rs, are read into lent numbers t as n lines
 pub record HoldsReading (bs : List ℕ) (t : List ℤ) (n : ℕ) (rs : Rows) : Type 0 where
@@ -46,3 +48,4 @@ pub record ReadsRight (bs : List ℕ) (t : List ℤ) : Type 0 where
 
 pub record Demand2 : Type 0 where
   pub reads : (bs : List ℕ) (t : List ℤ) → ReadsRight bs t
+  pub writes-back : (t : List ℤ) (n : ℕ) (rs : Rows) → Good t n rs → WritesBack t n rs

@@ -1,19 +1,22 @@
--- Demand 3: an edit of an accepted file answers as a fresh reading of the edited file does, and leaves the table that the
+-- Demand 3. An edit of an accepted file answers as a fresh reading of the edited file does, and leaves the table that the
 -- fresh reading leaves; its meeting line is the first agreement of states, and nothing outside its span changes.
 use mathlib.Core.Path.{_≡_}
+use mathlib.Core.Bool.{true}
 use mathlib.Core.List.{List}
-use Prim.Native.Nat.{ℕ, _-_, _*_, _<_}
+use Prim.Native.Nat.{ℕ, _-_, _*_, _<_, _≤_}
 use lib.IntN.{ℤ}
-use lib.ListN.{take, drop}
+use lib.ListN.{length, take, drop}
 use Rattle.runs.specs.Machine.{accepted}
 use Rattle.runs.specs.Agreement.{FirstAgreement}
 use Rattle.rules.specs.declared.Answer.{Answer}
 use Rattle.rules.specs.declared.Answer.the-variants.{Done, Refused}
+use Rattle.rules.specs.Numbers.{maxFile}
 use Rattle.rules.specs.State.{start}
 use Rattle.rules.specs.Rows.{rowWidth}
 use Rattle.rules.specs.Reading.{Rows, fileOf, readAnswer, readLeaves}
-use Rattle.rules.specs.Editing.{editAnswer, editLeaves}
+use Rattle.rules.specs.Editing.{noLineEnd, editAnswer, editLeaves}
 use Rattle.rules.specs.Asking.{holeAnswer}
+use Rattle.demands.specs.EditedFile.{LineOf, edited}
 
 -- an edit's answer, and a fresh reading's: the same refusal at the same line, or n lines read
 abbrev pub SameVerdict : ℕ → Answer → Answer → Type 0
@@ -45,3 +48,13 @@ pub record AsReadAfresh (old-file new-file : List ℕ) (t : List ℤ) (n k : ℕ
   pub verdict : SameVerdict n (editAnswer t n k l) (readAnswer new-file t)
   pub table : editLeaves t n k l ≡ readLeaves new-file t
   pub span : SpanIs old-file new-file t (editLeaves t n k l) n k (editAnswer t n k l)
+
+pub record Demand3 : Type 0 where
+  -- each line of a file that was read into lent numbers t, whose table has n rows, is one that may be edited, and no other is
+  pub every-line : (bs : List ℕ) (t : List ℤ) (n : ℕ) → readAnswer bs t ≡ Done n → (k : ℕ) → 1 ≤ k → k ≤ n → LineOf bs k
+  pub no-other : (bs : List ℕ) (t : List ℤ) (n : ℕ) → readAnswer bs t ≡ Done n → (k : ℕ) → LineOf bs k → (1 ≤ k) × (k ≤ n)
+  -- the edited file is one
+  pub one-edited : (bs : List ℕ) (k : ℕ) (v w : LineOf bs k) (l : List ℕ) → noLineEnd l ≡ true → edited v l ≡ edited w l
+  -- line k gets the text l, which holds no line end, and the edited file is no larger than a file may be
+  pub as-read-afresh : (bs : List ℕ) (t : List ℤ) (n : ℕ) → readAnswer bs t ≡ Done n → (k : ℕ) (w : LineOf bs k) (l : List ℕ)
+      → noLineEnd l ≡ true → length (edited w l) ≤ maxFile → AsReadAfresh bs (edited w l) (readLeaves bs t) n k l

@@ -1,11 +1,12 @@
 pub mod Demand1
+pub mod WriteBack
 pub mod Demand2
 pub mod EditedFile
 pub mod Demand3
 pub mod GoodTable
-pub mod WriteBack
-pub mod WriteRefused
 pub mod GoodExactly
+pub mod GoodStays
+pub mod WriteRefused
 pub mod HoleRefused
 pub mod EditRefused
 pub mod OneSpelling

@@ -1,7 +1,7 @@
 -- Writing succeeds exactly for a good table and a block with room for its text; otherwise it is refused: 18 at line 0 for
 -- the sizes, 18 at the first row that fails its test or doesn't follow, 18 at line n if the last phase isn't 4, then 15.
 use mathlib.Core.Path.{_≡_}
-use mathlib.Core.Bool.{true, false}
+use mathlib.Core.Bool.{false}
 use mathlib.Core.List.{List, _∷_, _++_}
 use Prim.Native.Nat.{ℕ, _+_, _<_, _≤_}
 use lib.IntN.{ℤ}
@@ -13,7 +13,7 @@ use Rattle.rules.specs.declared.Refusal.{Refusal}
 use Rattle.rules.specs.declared.Answer.the-variants.{Done, Refused}
 use Rattle.rules.specs.Refusals.{badTable, noRoom}
 use Rattle.rules.specs.State.{start, taken, hasEnded}
-use Rattle.rules.specs.Rows.{entriesOf, sizesFit, Good}
+use Rattle.rules.specs.Rows.{entriesOf, Sizes, Good}
 use Rattle.rules.specs.Reading.{Rows}
 use Rattle.rules.specs.Writing.{textOfRows, writeAnswer}
 
@@ -31,8 +31,8 @@ pub data NotTable (p : State) (i : ℕ) : List (Entry Command State) → ℕ →
 
 -- why a table is not written, and the line
 pub data WriteRefused (t : List ℤ) (n : ℕ) (b : List ℕ) : Refusal → ℕ → Type 0 where
-  sizes : sizesFit t n ≡ false → WriteRefused t n b badTable 0
-  rows : {i : ℕ} → sizesFit t n ≡ true → NotTable start 0 (entriesOf n t) i → WriteRefused t n b badTable i
+  sizes : (Sizes t n → ⊥) → WriteRefused t n b badTable 0
+  rows : {i : ℕ} → Sizes t n → NotTable start 0 (entriesOf n t) i → WriteRefused t n b badTable i
   short : {rs : Rows} → Good t n rs → length b < length (textOfRows rs) → WriteRefused t n b noRoom 0
 
 -- a table is written as m bytes
@@ -48,3 +48,6 @@ pub record WritesExactly (t : List ℤ) (n : ℕ) (b : List ℕ) : Type 0 where
   -- 18 exactly where the table isn't good
   pub not-good : ((rs : Rows) → Good t n rs → ⊥) → (i : ℕ) × (writeAnswer t n b ≡ Refused badTable i)
   pub not-bad : (rs : Rows) → Good t n rs → (i : ℕ) → writeAnswer t n b ≡ Refused badTable i → ⊥
+
+pub record WriteExactly : Type 0 where
+  pub writes : (t : List ℤ) (n : ℕ) (b : List ℕ) → WritesExactly t n b

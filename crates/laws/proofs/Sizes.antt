@@ -1,6 +1,6 @@
 -- What the tests of sizes, of a line's number and of room say.
-use mathlib.Core.Path.{_≡_}
-use mathlib.Core.Bool.{true, false}
+use mathlib.Core.Path.{_≡_, refl, sym, _∙_}
+use mathlib.Core.Bool.{Bool, true, false, false≢true}
 use mathlib.Core.List.{List}
 use Prim.Native.Nat.{ℕ, _*_, _/_, _<_, _≤_}
 use native.Mathlib.Omega.{arith}
@@ -34,6 +34,16 @@ module _ (t : List ℤ) (n : ℕ) where
       let p = both (leb 1 n) _ h in
       let q = both (leb n maxLines) _ (p .1) in
       record { some = leb-true 1 n (p .0); few = leb-true n maxLines (q .0); room = omega (arith, leb-true n (length t / rowWidth) (q .1)) }
+
+  pub bad-sizes : sizesFit t n ≡ false → Sizes t n → ⊥
+  bad-sizes h z = false≢true (sym h ∙ sizes-fit z)
+
+  pub sizes-bad : (Sizes t n → ⊥) → sizesFit t n ≡ false
+  sizes-bad h = by (sizesFit t n) refl
+    where
+      by : (b : Bool) → sizesFit t n ≡ b → sizesFit t n ≡ false
+      by true e = absurd (h (sizes-say e))
+      by false e = e
 
   pub room-says : hasRoom t n ≡ true → rowWidth * n ≤ length t
   unfolding hasRoom
