@@ -1,4 +1,4 @@
--- Document 01, "The bench file": its bytes, its print-out, and the edits of its proved set.
+-- Document 01, "The bench file": its bytes, its print-out, its table's text, and the edits of its proved set.
 use mathlib.Core.List.{List, [], _∷_}
 use Prim.Native.Nat.{ℕ, zero, suc, _*_}
 use lib.IntN.{ℤ, pos}
@@ -18,6 +18,11 @@ benchFile =
 abbrev pub benchPrint : List ℕ
 benchPrint =
     bytes "unit\tMETRIC\ntool\t1\t500000\ntool\t7\t1250000\n8\tH\t1\t2000000\t-3500000\t2000000\t-3500000\t0\n12\tL\t7\t0\t0\t4000000\t0\t0\n13\tA\t7\t4000000\t0\t6000000\t2000000\t2000000\nholes\t3\n"
+
+-- its table, written
+abbrev pub benchWritten : List ℕ
+benchWritten =
+    bytes "M48\nMETRIC\nT01C0.5\nT07C1.25\n%\nG05\nT01\nX2Y-3.5\nT07\nG00X0Y0\nM15\nG01X4Y0\nG03X6Y2A2\nM16\nM30\n"
 
 -- lent numbers, all 0
 unfoldable pub zeros : ℕ → List ℤ
