@@ -15,3 +15,4 @@ pub mod GoodExactly
 pub mod HoleRefused
 pub mod EditRefused
 pub mod OneSpelling
+pub mod BenchFile

@@ -11,3 +11,4 @@ pub mod HoleRefused
 pub mod EditRefused
 pub mod OneSpelling
 pub mod DiametersStand
+pub mod BenchFile

@@ -1,4 +1,3 @@
-pub mod Bench
 pub mod Keeps
 pub mod Sizes
 pub mod Lines
