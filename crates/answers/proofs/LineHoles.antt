@@ -25,7 +25,7 @@ use Rattle.answers.proofs.Places.{before-here, entry-here, around-line}
 abbrev pub holeFrom : State → Row Command State → HoleAnswer
 holeFrom p r = holeOf (p .at) (r .command) (r .state)
 
-hole-here : (os : Rows) (r : Row Command State) (ys : Rows) (k : ℕ) → k ≡ length os + 1 → holeIn (allHold (os ++ (r ∷ ys))) k ≡ holeFrom (lastOf start os) r
+pub hole-here : (os : Rows) (r : Row Command State) (ys : Rows) (k : ℕ) → k ≡ length os + 1 → holeIn (allHold (os ++ (r ∷ ys))) k ≡ holeFrom (lastOf start os) r
 unfolding holeIn
 hole-here os r ys k e = rw (before-here os (r ∷ ys) k e, entry-here os r ys k e)
 

@@ -16,7 +16,7 @@ use Rattle.rules.specs.Numbers.{maxLines}
 use Rattle.rules.specs.State.{start, taken, hasEnded}
 use Rattle.rules.specs.Rows.{rowWidth, tableNumbers, Good}
 use Rattle.rules.specs.Reading.{Rows}
-use Rattle.rules.specs.Editing.{noLineEnd, editRows, editAnswer, editLeaves}
+use Rattle.rules.specs.Editing.{noLineEnd, editRows, editOf, editAnswer, editLeaves}
 use Rattle.laws.proofs.Keeps.{start-ok}
 use Rattle.laws.proofs.Sizes.{line-says}
 use Rattle.laws.proofs.InRange.{RowsOk, rows-append, rows-first, rows-rest, rows-take, rows-drop, last-ok, said-ok, redone-ok}
@@ -61,18 +61,32 @@ module _ (rs : Rows) (rest : List ℤ) (ok : RowsOk rs) (few : length rs ≤ max
       (sym (edit-writes rs rest ok few k a b l hl s h)) n
       (rows-table new rest (edit-ok rs k a b l s ok h) (omega (arith, n)) (g .follows) (g .ends))
 
-edited-good : (t : List ℤ) (n : ℕ) (rs : Rows) → Good t n rs → (k : ℕ) (l : List ℕ) (m : ℕ) → editAnswer t n k l ≡ Done m → GoodTable (editLeaves t n k l) n
-edited-good t n rs g k l m h =
-    let d = edit-done t n k l m h in
-    let e = edit-tests t n k l (d .span) (d .verdict) in
-    let w = good-whole t n rs g in
-    let p = line-says n k (e .line) in
-    let made : editRows (allHold rs) k l ≡ accepted (d .span) = sym (ap (λ (es : _). editRows es k l) (g .found)) ∙ e .made in
-    record {
-      rows = putAt rs (k - 1) (d .span .rows);
-      good = subst₂ (λ (u : List ℤ) (j : ℕ). Good (editLeaves u j k l) j (putAt rs (k - 1) (d .span .rows))) (sym (w .numbers)) (w .count)
-          (left-good rs (drop (rowWidth * n) t) (w .rows .in-range) (w .rows .count) (g .follows) (g .ends) k (p .0) (omega (arith, w .count, p .1)) l (e .no-end) (d .span) made);
-    }
+-- an accepted edit of a good table, with its span
+module _ (t : List ℤ) (n : ℕ) (rs : Rows) (g : Good t n rs) (k : ℕ) (l : List ℕ) where
+  pub record GoodEdit (s : Span Command State) : Type 0 where
+    pub from : 1 ≤ k
+    pub upto : k ≤ length rs
+    pub made : editRows (allHold rs) k l ≡ accepted s
+    pub good : Good (editLeaves t n k l) n (putAt rs (k - 1) (s .rows))
+
+  pub edit-good : (s : Span Command State) → editOf t n k l ≡ accepted s → GoodEdit s
+  edit-good s h =
+      let e = edit-tests t n k l s h in
+      let w = good-whole t n rs g in
+      let p = line-says n k (e .line) in
+      let b : k ≤ length rs = omega (arith, w .count, p .1) in
+      let made : editRows (allHold rs) k l ≡ accepted s = sym (ap (λ (es : _). editRows es k l) (g .found)) ∙ e .made in
+      record {
+        from = p .0;
+        upto = b;
+        made = made;
+        good = subst₂ (λ (u : List ℤ) (j : ℕ). Good (editLeaves u j k l) j (putAt rs (k - 1) (s .rows))) (sym (w .numbers)) (w .count)
+            (left-good rs (drop (rowWidth * n) t) (w .rows .in-range) (w .rows .count) (g .follows) (g .ends) k (p .0) b l (e .no-end) s made);
+      }
 
 pub good-stays : GoodStays
-good-stays = record { stays = λ t n w. edited-good t n (w .rows) (w .good) }
+good-stays = record {
+  stays = λ t n w k l m h.
+      let d = edit-done t n k l m h in
+      record { rows = putAt (w .rows) (k - 1) (d .span .rows); good = edit-good t n (w .rows) (w .good) k l (d .span) (d .verdict) .good };
+}

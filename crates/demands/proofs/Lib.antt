@@ -7,6 +7,7 @@ pub mod Demand1
 pub mod Demand2
 pub mod Demand3
 pub mod GoodStays
+pub mod DiametersStand
 pub mod EveryLine
 pub mod WriteBack
 pub mod WalkStops

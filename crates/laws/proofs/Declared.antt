@@ -1,6 +1,6 @@
 -- Declared tools: no command takes a tool away, and a declaration adds its own. So a tool that is not declared after the last row is
 -- declared in none.
-use mathlib.Core.Path.{_≡_, refl, sym, _∙_, subst}
+use mathlib.Core.Path.{_≡_, refl, sym, _∙_}
 use mathlib.Core.Bool.{Bool, true, false, _||_, false≢true, cond}
 use mathlib.Core.List.{[], _∷_}
 use Prim.Native.Nat.{ℕ, _+_, _≤_}
@@ -18,49 +18,19 @@ use Rattle.rules.specs.declared.Next.the-variants.{To}
 use Rattle.rules.specs.declared.DiameterAnswer.the-variants as D
 use Rattle.rules.specs.Refusals.{notDeclared}
 use Rattle.rules.specs.Numbers.{maxTool}
+use Rattle.tools.specs.declared.Tools.{Tools}
 use Rattle.tools.specs.Set.{has, insert}
 use Rattle.rules.specs.State.{step, taken, withTools}
+use Rattle.rules.specs.Ranges.{CommandOk}
 use Rattle.rules.specs.Reading.{Rows}
 use Rattle.rules.specs.Asking.{declaredBy, onDeclared, diameterIn}
 use Rattle.tools.proofs.Set.{has-insert}
 use Rattle.laws.proofs.Keeps.{Kept, after-need, taken-keeps, taken-after}
 use Rattle.laws.proofs.InRange.{RowsOk}
 
-module _ (u : ℕ) (low : u ≤ maxTool) where
-  Has : State → Type 0
-  Has s = has (s .tools) u ≡ true
+-- ---- what a command declares
 
-  or-true : (a b : Bool) → b ≡ true → (a || b) ≡ true
-  or-true true b e = refl
-  or-true false b e = e
-
-  has-kept : Kept Has
-  unfolding Has
-  has-kept = record {
-    phase = λ s p n h. h;
-    unit = λ s p n h. h;
-    motion = λ s p n h. h;
-    tool = λ s p n h. h;
-    place = λ s p n h. h;
-    declared = λ s t n h. has-insert (s .tools) t u (omega arith) ∙ or-true (eqb u t) (has (s .tools) u) h;
-  }
-
-  -- what has been declared stays so, to the last row
-  pub declared-stays : (rs : Rows) (p : State) (i : ℕ) → Follows (StepBy taken) p i rs → RowsOk rs → has (p .tools) u ≡ true → has (lastOf p rs .tools) u ≡ true
-  unfolding lastOf Has
-  declared-stays [] p i f ok h = h
-  declared-stays (r ∷ rs) p i f ok h =
-      declared-stays rs (r .state) (i + 1) (follows-tail f) (ok .2) (taken-keeps Has has-kept p (r .state) (r .command) h (ok .0) (follows-head f))
-
-  -- a declaration adds its tool
-  adds : (s q : State) (d : ℕ) → taken s (Declare u d) ≡ yields q → has (q .tools) u ≡ true
-  unfolding step Has
-  adds s q d e =
-      taken-after Has s q (Declare u d)
-      (after-need Has _ _ _ (after-need Has _ _ (To (withTools (insert (s .tools) u) s)) (rw (has-insert (s .tools) u u (omega arith), eq-eqb u u refl)))) e
-
-  -- ---- what a command declares
-
+module _ (u : ℕ) where
   cond-is : {t d m : ℕ} (b : Bool) → eqb t u ≡ b → cond b (Diameter d) Other ≡ Diameter m → Declare t d ≡ Declare u m
   cond-is {t} {d} {m} true e f = let z : d ≡ m = cc in rw (eqb-true t u e, z)
   cond-is false e f = absurd (let z : _≡_ {A = ℕ} 0 1 = cc in omega arith)
@@ -84,6 +54,60 @@ module _ (u : ℕ) (low : u ≤ maxTool) where
   declared-is (G03 a) m e = absurd (let z : _≡_ {A = ℕ} 0 1 = cc in omega arith)
   declared-is M30 m e = absurd (let z : _≡_ {A = ℕ} 0 1 = cc in omega arith)
 
+  pub declares : (d : ℕ) → declaredBy u (Declare u d) ≡ Diameter d
+  unfolding declaredBy
+  declares d = rw (eq-eqb u u refl)
+
+  pub declares-none : (c : Command) → ((d : ℕ) → c ≡ Declare u d → ⊥) → declaredBy u c ≡ Other
+  declares-none c n = by (declaredBy u c) refl
+    where
+      by : (x : Declared) → declaredBy u c ≡ x → x ≡ Other
+      by Other e = refl
+      by (Diameter m) e = absurd (n m (declared-is c m e))
+
+-- ---- what is declared stays so
+
+module _ (u : ℕ) (low : u ≤ maxTool) where
+  Has : State → Type 0
+  Has s = has (s .tools) u ≡ true
+
+  or-true : (a b : Bool) → b ≡ true → (a || b) ≡ true
+  or-true true b e = refl
+  or-true false b e = e
+
+  pub insert-keeps : (s : Tools) (t : ℕ) → has s u ≡ true → has (insert s t) u ≡ true
+  insert-keeps s t h = has-insert s t u (omega arith) ∙ or-true (eqb u t) (has s u) h
+
+  has-kept : Kept Has
+  unfolding Has
+  has-kept = record {
+    phase = λ s p n h. h;
+    unit = λ s p n h. h;
+    motion = λ s p n h. h;
+    tool = λ s p n h. h;
+    place = λ s p n h. h;
+    declared = λ s t n h. insert-keeps (s .tools) t h;
+  }
+
+  pub stays : (p q : State) (c : Command) → CommandOk c → taken p c ≡ yields q → has (p .tools) u ≡ true → has (q .tools) u ≡ true
+  unfolding Has
+  stays p q c k e h = taken-keeps Has has-kept p q c h k e
+
+  -- and so to the last row
+  pub declared-stays : (rs : Rows) (p : State) (i : ℕ) → Follows (StepBy taken) p i rs → RowsOk rs → has (p .tools) u ≡ true → has (lastOf p rs .tools) u ≡ true
+  unfolding lastOf
+  declared-stays [] p i f ok h = h
+  declared-stays (r ∷ rs) p i f ok h =
+      declared-stays rs (r .state) (i + 1) (follows-tail f) (ok .2) (stays p (r .state) (r .command) (ok .0) (follows-head f) h)
+
+  -- a declaration adds its tool
+  pub adds : (s q : State) (c : Command) (d : ℕ) → c ≡ Declare u d → taken s c ≡ yields q → has (q .tools) u ≡ true
+  unfolding step Has
+  adds s q c d w e =
+      taken-after Has s q (Declare u d)
+      (after-need Has _ _ _ (after-need Has _ _ (To (withTools (insert (s .tools) u) s)) (rw (has-insert (s .tools) u u (omega arith), eq-eqb u u refl))))
+      (rw w at e)
+
   -- a tool that isn't declared after the last row is found in none
   pub undeclared : (rs : Rows) (p : State) (i : ℕ) → Follows (StepBy taken) p i rs → RowsOk rs → has (lastOf p rs .tools) u ≡ false
       → diameterIn u (allHold rs) i ≡ D.Refused notDeclared 0
@@ -95,5 +119,5 @@ module _ (u : ℕ) (low : u ≤ maxTool) where
           → onDeclared x (diameterIn u (allHold rs) (i + 1)) ≡ D.Refused notDeclared 0
       by Other e ih = ih
       by (Diameter m) e ih =
-          let t : taken p (Declare u m) ≡ yields (r .state) = subst (λ (c : Command). taken p c ≡ yields (r .state)) (declared-is (r .command) m e) (follows-head f) in
-          absurd (false≢true (sym h ∙ declared-stays rs (r .state) (i + 1) (follows-tail f) (ok .2) (adds p (r .state) m t)))
+          let here = adds p (r .state) (r .command) m (declared-is u (r .command) m e) (follows-head f) in
+          absurd (false≢true (sym h ∙ declared-stays rs (r .state) (i + 1) (follows-tail f) (ok .2) here))

@@ -8,7 +8,7 @@ use native.Mathlib.Omega.{arith}
 use borrow.Author.Tests.{leb-true}
 use lib.Dec.{leb, eqb}
 use lib.IntN.{pos, negℤ, natAbs}
-use lib.ListN.{length, take, drop}
+use lib.ListN.{length, getD, take, drop}
 use Rattle.lists.proofs.Choice.{cond-all, both}
 use Rattle.runs.specs.Machine.{yields, stops, lastOf, nil, link}
 use Rattle.runs.proofs.Append.{Reads}
@@ -21,7 +21,7 @@ use Rattle.rules.specs.Numbers.{maxLine, maxNumber, maxTool, maxPlaces, maxLine
 use Rattle.rules.specs.Lines.{Line, textOf, isPrintable}
 use Rattle.rules.specs.Commands.{Form, comment, m48, metric, inch, declare, percent, g05, g00, select, hit, m15, m16, g01, g02, g03, m30, Formed, is, no-form, formOf, pointOf, inRange, meaningOf, onForm, commandOf, lineOf}
 use Rattle.rules.specs.State.{taken, hasEnded}
-use Rattle.rules.specs.Reading.{sayOut, answerIn, commandIn, Rows}
+use Rattle.rules.specs.Reading.{sayOut, answerIn, commandIn, Rows, noRow}
 use Rattle.rules.specs.Ranges.{PointOk, NumberOk, ArcOk, StateOk, CommandOk}
 use Rattle.laws.proofs.Keeps.{taken-ok}
 
@@ -120,6 +120,11 @@ pub rows-drop : (n : ℕ) (rs : Rows) → RowsOk rs → RowsOk (drop n rs)
 rows-drop zero rs g = g
 rows-drop (suc n) [] g = tt
 rows-drop (suc n) (r ∷ rs) g = rows-drop n rs (g .2)
+
+pub row-ok : (rs : Rows) (j : ℕ) → RowsOk rs → CommandOk (getD rs j noRow .command)
+row-ok [] j g = tt
+row-ok (r ∷ rs) zero g = g .0
+row-ok (r ∷ rs) (suc j) g = row-ok rs j (g .2)
 
 pub last-ok : (p : State) (rs : Rows) → StateOk p → RowsOk rs → StateOk (lastOf p rs)
 unfolding lastOf

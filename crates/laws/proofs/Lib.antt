@@ -8,3 +8,4 @@ pub mod Rows
 pub mod Entries
 pub mod Ways
 pub mod Declared
+pub mod Diameters

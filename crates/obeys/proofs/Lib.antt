@@ -4,3 +4,5 @@ pub mod Lines
 pub mod Steps
 pub mod Split
 pub mod Files
+pub mod Declares
+pub mod Selected

@@ -47,7 +47,7 @@ read-size d e =
     let g = both (leb 1 (millionths d)) (leb (millionths d) maxNumber) (h .1) in
     size {d = d} (leb-true (d .places) maxPlaces (h .0)) (leb-true 1 (millionths d) (g .0)) (leb-true (millionths d) maxNumber (g .1))
 
-tool-read : {t : ℕ} → Tool t → isTool t ≡ true
+pub tool-read : {t : ℕ} → Tool t → isTool t ≡ true
 unfolding isTool
 tool-read {t} w = rw (le-leb 1 t (w .low), le-leb t maxTool (w .high))
 

@@ -13,8 +13,8 @@ use Rattle.rules.specs.declared.Refusal.{Refusal}
 use Rattle.rules.specs.declared.LineAnswer.{LineAnswer}
 use Rattle.rules.specs.Numbers.{maxLines}
 use Rattle.rules.specs.Lines.{LF, CR, Line, linesOf, endsInCR, textOf}
-use Rattle.rules.specs.Commands.{saysNo, lineOf}
 use Rattle.rules.specs.Refusals.{tooManyLines, lineNotEnded}
+use Rattle.rules.specs.Commands.{saysNo, lineOf}
 use Rattle.rules.specs.Spelling.{Printable, SpellsLine, LineEnd, lf, crlf, SpellsFile, line}
 use Rattle.rules.specs.Reading.{sayOut, answerIn, commandIn}
 use Rattle.laws.proofs.Lines.{printable-without, no-cr, text-plain, cr-last, lineWith, end-line, end-text}

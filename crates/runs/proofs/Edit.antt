@@ -9,12 +9,12 @@ use native.Mathlib.Nat.{add-zero}
 use lib.ListN.{length, take, drop, length-append, take-append-drop}
 use lib.Seq.{take-append-le, take-append-add, take-append-seam, drop-append-add, take-all, length-take-le}
 use Rattle.lists.specs.Put.{putAt}
-use Rattle.runs.specs.Machine.{Out, yields, stops, refused, Row, holds, allHold, lastOf, run, rerun, nil, link, Follows, StepBy}
+use Rattle.runs.specs.Machine.{Out, yields, stops, refused, Row, holds, allHold, commandsOf, lastOf, run, rerun, nil, link, Follows, StepBy}
 use Rattle.runs.specs.Agreement.{stateAfter, FirstAgreement}
 use Rattle.runs.proofs.Chains.{chain-append, follows-tail, follows-first, follows-rest}
 use Rattle.runs.proofs.Append.{befores, Reads, run-append}
 use Rattle.runs.proofs.Rerun.{told, rerun-line, run-unread}
-use Rattle.runs.proofs.Meeting.{Redone, redone-upto, redone-some, redone-differ, redone-agrees, redone-follows, Ended}
+use Rattle.runs.proofs.Meeting.{Redone, redone-upto, redone-some, redone-commands, redone-differ, redone-agrees, redone-follows, Ended}
 
 -- ---- rows around one line
 
@@ -57,7 +57,7 @@ module _ {L C S R : Type 0} (read : ℕ → L → Out C R) (step : S → C → O
         reads-rest = rw n at (a .reads-rest);
       }
 
--- ---- states of rows and then others
+-- ---- states and commands of rows and then others
 
 module _ {C S : Type 0} where
   pub last-append : (p : S) (xs ys : List (Row C S)) → lastOf p (xs ++ ys) ≡ lastOf (lastOf p xs) ys
@@ -73,6 +73,11 @@ module _ {C S : Type 0} where
   after-add p rs m j h =
       let n : length (take m rs) ≡ m = length-take-le m rs h in
       ap₂ (λ (z : List (Row C S)) (i : ℕ). stateAfter p z (i + j)) (sym (take-append-drop m rs)) (sym n) ∙ after-append p (take m rs) (drop m rs) j
+
+  pub commands-append : (xs ys : List (Row C S)) → commandsOf (xs ++ ys) ≡ commandsOf xs ++ commandsOf ys
+  unfolding commandsOf
+  commands-append [] ys = refl
+  commands-append (x ∷ xs) ys = ap (λ (cs : List C). x .command ∷ cs) (commands-append xs ys)
 
   -- rows from the second on do not ask what the first one's command is
   after-command : (p : S) (r : Row C S) (c : C) (rs : List (Row C S)) (j : ℕ) → stateAfter p (record { command = c; state = r .state } ∷ rs) (suc j) ≡ stateAfter p (r ∷ rs) (suc j)
@@ -114,6 +119,16 @@ module _ {C S R : Type 0} (step : S → C → Out S R) (final : S → Bool) (p :
   splice-put =
       rw (take-append-seam os (r ∷ bs), drop-append-add os (r ∷ bs) (length ns), drop-command r (record { command = c; state = r .state }) bs (length ns) redone-any)
       (sym (append-assoc os ns (drop (length ns) (record { command = c; state = r .state } ∷ bs))))
+
+  -- their commands are the old ones, but for the first
+  pub splice-commands : commandsOf (putAt (os ++ (r ∷ bs)) (length os) ns) ≡ commandsOf os ++ (c ∷ commandsOf bs)
+  unfolding commandsOf
+  splice-commands =
+      let old : List (Row C S) = record { command = c; state = r .state } ∷ bs in
+      ap commandsOf (sym splice-put) ∙ commands-append os (ns ++ drop (length ns) old)
+      ∙ ap (λ (cs : List C). commandsOf os ++ cs)
+      (commands-append ns (drop (length ns) old) ∙ ap (λ (cs : List C). cs ++ commandsOf (drop (length ns) old)) (redone-commands step final h)
+      ∙ sym (commands-append (take (length ns) old) (drop (length ns) old)) ∙ ap commandsOf (take-append-drop (length ns) old))
 
   splice-after : (j : ℕ) → j ≤ length ns → stateAfter p (putAt (os ++ (r ∷ bs)) (length os) ns) (length os + j) ≡ stateAfter (lastOf p os) ns j
   splice-after j b =
