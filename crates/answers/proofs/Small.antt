@@ -15,7 +15,8 @@ use Rattle.rules.specs.declared.Answer.{Answer}
 use Rattle.rules.specs.declared.Answer.the-variants.{Refused}
 use Rattle.rules.specs.declared.HoleAnswer.the-variants as H
 use Rattle.rules.specs.Numbers.{maxLines}
-use Rattle.rules.specs.Reading.{valueOf, Rows, fileOf, hasRoom, inRoom, readAnswer}
+use Rattle.rules.specs.Answers.{valueOf, said}
+use Rattle.rules.specs.Reading.{Rows, fileOf, hasRoom, inRoom, readAnswer}
 use Rattle.rules.specs.Rows.{entriesOf}
 use Rattle.rules.specs.Editing.{editOf, meetingOf, editAnswer}
 use Rattle.rules.specs.Asking.{holeAnswer}
@@ -47,15 +48,15 @@ abbrev most : ℕ
 most = maxLines + 1
 
 module _ (bs : List ℕ) (t : List ℤ) where
-  of-file : (v : Verdict Rows Refusal) → fileOf bs ≡ v → valueOf (onVerdict v Refused (inRoom t)) ≤ most
+  of-file : (v : Verdict Rows Refusal) → fileOf bs ≡ v → valueOf (said (onVerdict v Refused (inRoom t))) ≤ most
   unfolding Upto
   of-file (accepted rs) e =
-      cond-all (λ (a : Answer). valueOf a ≤ most) (hasRoom t (length rs)) (λ _. omega (arith, file-few bs rs e)) (λ _. omega arith)
+      cond-all (λ (a : Answer). valueOf (said a) ≤ most) (hasRoom t (length rs)) (λ _. omega (arith, file-few bs rs e)) (λ _. omega arith)
   of-file (refused e i) d =
       faulty-told (Upto most) (omega arith)
       (λ j h. record { line = of-line most j h; step = of-step most j h; many = h; unended = h; short = h }) (refused-says bs e i .0 d)
 
-  pub read-small : valueOf (readAnswer bs t) ≤ most
+  pub read-small : valueOf (said (readAnswer bs t)) ≤ most
   unfolding readAnswer
   read-small = of-file (fileOf bs) refl
 
@@ -75,28 +76,28 @@ module _ (t : List ℤ) (n k : ℕ) (l : List ℕ) where
       let c = entries-length n t in
       subst (λ (j : ℕ). SpanOf j k s) c (edit-spans (entriesOf n t) k (p .0) (omega arith) l s (d .made))
 
-  of-edit : (v : Verdict (Span Command State) Refusal) → editOf t n k l ≡ v → Told (Upto most) v → valueOf (meetingOf v) ≤ most
+  of-edit : (v : Verdict (Span Command State) Refusal) → editOf t n k l ≡ v → Told (Upto most) v → valueOf (said (meetingOf v)) ≤ most
   unfolding Upto
   of-edit (accepted s) e h =
       let z = span-of s e in
       omega (arith, z .counted, z .upto, sizes-say t n (edit-tests t n k l s e .sizes) .few)
   of-edit (refused e i) d h = h
 
-  pub edit-small : valueOf (editAnswer t n k l) ≤ most
+  pub edit-small : valueOf (said (editAnswer t n k l)) ≤ most
   unfolding editAnswer
   edit-small = of-edit (editOf t n k l) refl edit-lines
 
 module _ (t : List ℤ) (n : ℕ) where
   module _ (b : List ℕ) where
-    of-write : (v : Verdict Rows Refusal) → rowsOf t n ≡ v → Told (Upto maxLines) v → valueOf (onVerdict v Refused (λ rs. inBlock b (textOfRows rs))) ≤ longestLine * maxLines
+    of-write : (v : Verdict Rows Refusal) → rowsOf t n ≡ v → Told (Upto maxLines) v → valueOf (said (onVerdict v Refused (λ rs. inBlock b (textOfRows rs)))) ≤ longestLine * maxLines
     unfolding Upto
     of-write (accepted rs) e h =
         let g = good-whole t n rs (rows-good t n rs e) in
-        cond-all (λ (a : Answer). valueOf a ≤ longestLine * maxLines) (leb (length (textOfRows rs)) (length b))
+        cond-all (λ (a : Answer). valueOf (said a) ≤ longestLine * maxLines) (leb (length (textOfRows rs)) (length b))
         (λ _. omega (arith, text-length rs (g .rows .in-range), g .rows .count)) (λ _. omega arith)
     of-write (refused e i) d h = omega arith
 
-    pub write-small : valueOf (writeAnswer t n b) ≤ longestLine * maxLines
+    pub write-small : valueOf (said (writeAnswer t n b)) ≤ longestLine * maxLines
     unfolding writeAnswer Upto
     write-small = of-write (rowsOf t n) refl (rows-told (Upto maxLines) t n (omega arith) (λ h j m. omega arith))
 

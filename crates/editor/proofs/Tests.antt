@@ -1,5 +1,5 @@
 -- The tests of an edit, one after another as the code makes them: what it answers at each, and what it leaves.
-use mathlib.Core.Path.{_≡_, refl, sym, _∙_, subst}
+use mathlib.Core.Path.{_≡_, refl, sym, ap, _∙_, subst}
 use mathlib.Core.Bool.{Bool, true, false, not}
 use mathlib.Core.List.{List}
 use Prim.Native.Nat.{ℕ, _-_, _*_, _≤_}
@@ -22,6 +22,7 @@ use Rattle.rules.specs.declared.Answer.the-variants.{Refused}
 use Rattle.rules.specs.Refusals.{badTable, noSuchLine, holdsLineEnd}
 use Rattle.rules.specs.Commands.{lineOf}
 use Rattle.rules.specs.Rows.{rowWidth, entryOf, entriesOf, sizesFit}
+use Rattle.rules.specs.Answers.{said}
 use Rattle.rules.specs.Reading.{sayOut}
 use Rattle.rules.specs.Editing.{isLine, noLineEnd, stateIn, beforeLine, onBefore, editFrom, editRows, editOf, editAnswer, editLeaves}
 use Rattle.rules.specs.Ranges.{StateOk, CommandOk}
@@ -52,7 +53,7 @@ before-ok t k = cond-all BeforeOk (leb k 1) (λ _. start-ok) (λ _. looked-ok t 
 module _ (t : List ℤ) (n k : ℕ) (l : List ℕ) where
   edit-is : {v : Verdict (Span Command State) Refusal} {r : Answer} {t′ : List ℤ} → editOf t n k l ≡ v → Leaves t k v r t′ → EditIs t n k l r t′
   unfolding editAnswer editLeaves
-  edit-is e h = record { answer = rw e (h .answer); leaves = rw e (h .leaves) }
+  edit-is e h = record { answer = rw e (ap said (h .answer)); leaves = rw e (h .leaves) }
 
   edit-no : (e : Refusal) (i : ℕ) → editOf t n k l ≡ refused e i → EditIs t n k l (Refused e i) t
   edit-no e i h = edit-is h (record { answer = refl; leaves = refl })

@@ -4,8 +4,9 @@ use mathlib.Core.List.{List}
 use Prim.Native.Nat.{ℕ}
 use lib.IntN.{ℤ}
 use Rattle.rules.specs.declared.Answer.{Answer}
+use Rattle.rules.specs.Answers.{said}
 use Rattle.rules.specs.Editing.{editAnswer, editLeaves}
 
 pub record EditIs (t : List ℤ) (n k : ℕ) (l : List ℕ) (r : Answer) (t′ : List ℤ) : Type 0 where
-  pub answer : r ≡ editAnswer t n k l
+  pub answer : said r ≡ said (editAnswer t n k l)
   pub leaves : t′ ≡ editLeaves t n k l

@@ -15,6 +15,7 @@ use Rattle.rules.specs.Reading.{Rows, readAnswer, readLeaves}
 use Rattle.rules.specs.Editing.{noLineEnd, editAnswer, editLeaves}
 use Rattle.rules.specs.Writing.{textOfRows, writeAnswer, writeLeaves}
 use Rattle.rules.specs.Obeys.{Obeys}
+use Rattle.rules.proofs.Said.{said-one}
 use Rattle.round.specs.Comments.{withoutComments}
 use Rattle.demands.specs.EditedFile.{LineOf, edited}
 use Rattle.demands.specs.Demand2.{HoldsReading}
@@ -30,19 +31,19 @@ use Rattle.promises.specs.Calls.{ReadCall, EditCall, WriteCall}
 
 read-says : {file : List ℕ} {table left : List ℤ} {answer : Answer} → ReadCall file table answer left
     → (answer ≡ readAnswer file table) × (left ≡ readLeaves file table)
-read-says c = (c .promised .0 ∙ rw (c .file-is, c .table-is), sym (c .left-is) ∙ c .promised .1 ∙ rw (c .file-is, c .table-is))
+read-says c = (said-one (c .promised .0 ∙ rw (c .file-is, c .table-is)), sym (c .left-is) ∙ c .promised .1 ∙ rw (c .file-is, c .table-is))
 
 edit-says : {table left : List ℤ} {n line : ℕ} {text : List ℕ} {answer : Answer} → EditCall table n line text answer left
     → (answer ≡ editAnswer table n line text) × (left ≡ editLeaves table n line text)
 edit-says c = (
-  c .promised .answer ∙ rw (c .table-is, c .n-is, c .line-is, c .text-is),
+  said-one (c .promised .answer ∙ rw (c .table-is, c .n-is, c .line-is, c .text-is)),
   sym (c .left-is) ∙ c .promised .leaves ∙ rw (c .table-is, c .n-is, c .line-is, c .text-is),
 )
 
 write-says : {table : List ℤ} {n : ℕ} {text left : List ℕ} {answer : Answer} → WriteCall table n text answer left
     → (answer ≡ writeAnswer table n text) × (left ≡ writeLeaves table n text)
 write-says c = (
-  c .promised .0 ∙ rw (c .table-is, c .n-is, c .text-is),
+  said-one (c .promised .0 ∙ rw (c .table-is, c .n-is, c .text-is)),
   sym (c .left-is) ∙ c .promised .1 ∙ rw (c .table-is, c .n-is, c .text-is),
 )
 

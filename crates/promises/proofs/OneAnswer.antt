@@ -1,6 +1,7 @@
 -- Any two answers allowed by a promise are equal, for each public function: its contract, cited as it stands in its source, says
--- that the answer, and what is left, is what a definition says; and two things equal to a third are equal.
+-- that the answer, or its number and values, and what is left, is what a definition says; and two things equal to a third are equal.
 use mathlib.Core.Path.{_≡_, refl, sym, _∙_}
+use Rattle.rules.proofs.Said.{said-one, hole-said-one, diameter-said-one}
 use Rattle.points.proofs.Point.same.Kinds as point-same-kinds
 use Rattle.points.proofs.Point.same.Reads as point-same-reads
 use Rattle.points.proofs.distance.Kinds as distance-kinds
@@ -269,25 +270,25 @@ spell-put-line κs a x y e f p q = (same (p .end) (q .end), same (p .bytes) (q .
 -- ---- crate reader
 
 pub reader-read : OneOutcome 2 reader-read-kinds.ps reader-read-kinds.r reader-read-reads.Post (λ κs e. e .1 .0 .now)
-reader-read κs a x y e f p q = (same (p .0) (q .0), same (p .1) (q .1))
+reader-read κs a x y e f p q = (said-one (same (p .0) (q .0)), same (p .1) (q .1))
 
 -- ---- crate query
 
 pub query-hole : OneAnswer 1 query-hole-kinds.ps query-hole-kinds.r query-hole-reads.Post
-query-hole κs a x y e f p q = same p q
+query-hole κs a x y e f p q = hole-said-one (same p q)
 
 pub query-diameter : OneAnswer 1 query-diameter-kinds.ps query-diameter-kinds.r query-diameter-reads.Post
-query-diameter κs a x y e f p q = same p q
+query-diameter κs a x y e f p q = diameter-said-one (same p q)
 
 -- ---- crate editor
 
 pub editor-edit : OneOutcome 2 editor-edit-kinds.ps editor-edit-kinds.r editor-edit-reads.Post (λ κs e. e .0 .now)
-editor-edit κs a x y e f p q = (same (p .answer) (q .answer), same (p .leaves) (q .leaves))
+editor-edit κs a x y e f p q = (said-one (same (p .answer) (q .answer)), same (p .leaves) (q .leaves))
 
 -- ---- crate writer
 
 pub writer-write : OneOutcome 2 writer-write-kinds.ps writer-write-kinds.r writer-write-reads.Post (λ κs e. e .1 .1 .0 .now)
-writer-write κs a x y e f p q = (same (p .0) (q .0), same (p .1) (q .1))
+writer-write κs a x y e f p q = (said-one (same (p .0) (q .0)), same (p .1) (q .1))
 
 -- ---- crate print
 

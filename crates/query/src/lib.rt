@@ -3,6 +3,7 @@ ghost use mathlib.Core.Path.{_≡_};
 ghost use Prim.Native.Nat.{_*_, _≤_};
 ghost use lib.ListN.{length};
 ghost use Rattle.rules.specs.Rows as Rows;
+ghost use Rattle.rules.specs.Answers.{holeSaid, diameterSaid};
 ghost use Rattle.rules.specs.Asking as Asking;
 use rules::BAD_TABLE;
 use rules::Before;
@@ -17,7 +18,7 @@ use rules::OUT_OF_RANGE;
 
 /// The hole of a line, where it makes one. The row before is tested, and the row itself, and no other.
 pub fn hole(table: &[i32], n: usize, line: usize) -> HoleAnswer
-    ensures { λ r. ⌜ r ≡ Asking.holeAnswer (now (table .entry)) n line ⌝ }
+    ensures { λ r. ⌜ holeSaid r ≡ holeSaid (Asking.holeAnswer (now (table .entry)) n line) ⌝ }
 {
     if !table::sizes_fit(table, n) {
         return HoleAnswer::Refused(BAD_TABLE, 0);
@@ -63,7 +64,7 @@ fn find_diameter(table: &[i32], n: usize, tool: u32) -> DiameterAnswer
 
 /// A tool's diameter, looked up from its declaration.
 pub fn diameter(table: &[i32], n: usize, tool: u32) -> DiameterAnswer
-    ensures { λ r. ⌜ r ≡ Asking.diameterAnswer (now (table .entry)) n tool ⌝ }
+    ensures { λ r. ⌜ diameterSaid r ≡ diameterSaid (Asking.diameterAnswer (now (table .entry)) n tool) ⌝ }
 {
     if !table::sizes_fit(table, n) {
         return DiameterAnswer::Refused(BAD_TABLE, 0);

@@ -17,13 +17,14 @@ use Rattle.rules.specs.Refusals.{noRoom, fileTooLong}
 use Rattle.rules.specs.Numbers.{maxFile, maxLines}
 use Rattle.rules.specs.Lines.{linesOf}
 use Rattle.rules.specs.Rows.{rowWidth, tableNumbers}
+use Rattle.rules.specs.Answers.{said}
 use Rattle.rules.specs.Reading.{Rows, runOf, fileOf, hasRoom, inRoom, withRows, readAnswer, readLeaves}
 use Rattle.laws.proofs.Entries.{table-length}
 use Rattle.put.proofs.Puts.{copied-all}
 use Rattle.reader.specs.Parts.{toldFrom, leftFrom, Block, LinesRead}
 
 abbrev ReadIs : List ℕ → List ℤ → Answer → List ℤ → Type 0
-ReadIs bs t r t′ = (r ≡ readAnswer bs t) × (t′ ≡ readLeaves bs t)
+ReadIs bs t r t′ = (said r ≡ said (readAnswer bs t)) × (t′ ≡ readLeaves bs t)
 
 pub read-long : (bs : List ℕ) (t : List ℤ) → maxFile < length bs → ReadIs bs t (Refused fileTooLong 0) t
 unfolding readAnswer readLeaves fileOf
@@ -45,15 +46,15 @@ pub read-count : {bs : List ℕ} {z b : List ℤ} {r : Answer} → LinesRead bs 
 read-count w h = block-of w h .0
 
 module _ (bs : List ℕ) (t : List ℤ) (fits : length bs ≤ maxFile) where
-  from-verdict : (v : Verdict Rows Refusal) → runOf (linesOf bs) ≡ v → {r : Answer} {t′ : List ℤ}
+  from-verdict : (v : Verdict Rows Refusal) → runOf (linesOf bs) ≡ v → (r : Answer) {t′ : List ℤ}
       → (r ≡ onVerdict v Refused (inRoom t)) × (t′ ≡ onVerdict v (λ e i. t) (withRows t)) → ReadIs bs t r t′
   unfolding readAnswer readLeaves fileOf
-  from-verdict v e h = rw (le-leb (length bs) maxFile fits, e) h
+  from-verdict v e r h = rw (le-leb (length bs) maxFile fits, e) (ap said (h .0), h .1)
 
   module _ (n : ℕ) (rs : Rows) (ev : runOf (linesOf bs) ≡ accepted rs) (en : n ≡ length rs) where
     rows-no-room : length t / rowWidth < n → ReadIs bs t (Refused noRoom 0) t
     unfolding hasRoom
-    rows-no-room h = from-verdict (accepted rs) ev (rw (← en, lt-leb n (length t / rowWidth) h), rw (← en, lt-leb n (length t / rowWidth) h))
+    rows-no-room h = from-verdict (accepted rs) ev (Refused noRoom 0) (rw (← en, lt-leb n (length t / rowWidth) h), rw (← en, lt-leb n (length t / rowWidth) h))
 
     rows-done : n ≤ length t / rowWidth → (z b : List ℤ) {t′ : List ℤ} → b ≡ leftFrom z 0 (runOf (linesOf bs)) → t′ ≡ putIn t 0 (take (rowWidth * n) b)
         → ReadIs bs t (Done n) t′
@@ -62,13 +63,13 @@ module _ (bs : List ℕ) (t : List ℤ) (fits : length bs ≤ maxFile) where
         let a : b ≡ tableNumbers rs ++ drop (0 + length (tableNumbers rs)) z = rw ev at e in
         let w : rowWidth * n ≡ length (tableNumbers rs) = ap (λ (k : ℕ). rowWidth * k) en ∙ sym (table-length rs) in
         let c : take (rowWidth * n) b ≡ tableNumbers rs = rw a (take-at (tableNumbers rs) (drop (0 + length (tableNumbers rs)) z) (rowWidth * n) (sym w)) in
-        from-verdict (accepted rs) ev
+        from-verdict (accepted rs) ev (Done n)
         (rw (← en, le-leb n (length t / rowWidth) h), rw (← en, le-leb n (length t / rowWidth) h) (f ∙ ap (putIn t 0) c ∙ sym (copied-all t 0 (tableNumbers rs) (omega arith))))
 
   -- b is the block after its lines were read into z
   module _ {z b : List ℤ} {r : Answer} (w : LinesRead bs z r b) where
     pub read-refused : {e : Refusal} {i : ℕ} → r ≡ Refused e i → ReadIs bs t (Refused e i) t
-    read-refused {e} {i} h = from-verdict (refused e i) (verdict-refused (runOf (linesOf bs)) e i (sym h ∙ w .answer)) (refl, refl)
+    read-refused {e} {i} h = from-verdict (refused e i) (verdict-refused (runOf (linesOf bs)) e i (sym h ∙ w .answer)) (Refused e i) (refl, refl)
 
     module _ (n : ℕ) (h : r ≡ Done n) where
       read-rows : (rs : Rows) × ((runOf (linesOf bs) ≡ accepted rs) × (n ≡ length rs))

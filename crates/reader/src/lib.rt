@@ -4,6 +4,7 @@ ghost use mathlib.Core.Path.{_≡_};
 ghost use Prim.Native.Nat.{_≤_};
 ghost use lib.ListN.{length};
 ghost use Rattle.rules.specs.Rows.{tableRoom};
+ghost use Rattle.rules.specs.Answers.{said};
 ghost use Rattle.rules.specs.Reading.{readAnswer, readLeaves};
 ghost use Rattle.reader.specs.Parts.{LinesRead};
 use rules::Answer;
@@ -54,7 +55,7 @@ fn read_lines(file: &[u8], rows: &mut [i32]) -> Answer
 /// A file's bytes into lent numbers: the number of lines, or the refusal and its line. On success the rows stand first, and all
 /// beyond them is as it was; a refused file changes nothing.
 pub fn read(file: &[u8], table: &mut [i32]) -> Answer
-    ensures { λ r. ⌜ (r ≡ readAnswer (now (file .entry)) (now (table .entry))) × (now (table .exit) ≡ readLeaves (now (file .entry)) (now (table .entry))) ⌝ }
+    ensures { λ r. ⌜ (said r ≡ said (readAnswer (now (file .entry)) (now (table .entry)))) × (now (table .exit) ≡ readLeaves (now (file .entry)) (now (table .entry))) ⌝ }
 {
     if MAX_FILE < file.len() {
         return Answer::Refused(FILE_TOO_LONG, 0);

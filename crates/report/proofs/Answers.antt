@@ -13,8 +13,10 @@ use Rattle.rules.specs.declared.Refusal.{Refusal}
 use Rattle.rules.specs.declared.Answer.{Answer}
 use Rattle.rules.specs.declared.Answer.the-variants.{Done, Refused}
 use Rattle.rules.specs.Rows.{tableRoom, tableNumbers, Good}
+use Rattle.rules.specs.Answers.{said}
 use Rattle.rules.specs.Reading.{Rows, fileOf, readAnswer, readLeaves}
 use Rattle.rules.specs.Printing.{printedLine, refusedText, printed}
+use Rattle.rules.proofs.Said.{said-one}
 use Rattle.laws.proofs.Sizes.{sizes-say}
 use Rattle.answers.proofs.AcceptedFile.{ReadDone, file-few, read-done, read-accepts, read-writes, read-refuses}
 use Rattle.answers.proofs.GoodTables.{file-table}
@@ -74,15 +76,15 @@ module _ (file : List ℕ) (table : List ℤ) (text : List ℕ) where
     unfolding printed refusedText decimals
     refused-text e i a = rw (refusal e i a (fileOf file) refl)
 
-    pub file-refused : {a : Answer} {T : List ℤ} → a ≡ readAnswer file table → T ≡ readLeaves file table → (e : Refusal) (i : ℕ) → a ≡ Refused e i
+    pub file-refused : {a : Answer} {T : List ℤ} → said a ≡ said (readAnswer file table) → T ≡ readLeaves file table → (e : Refusal) (i : ℕ) → a ≡ Refused e i
         → {text′ : List ℕ} {r : ℕ} → Wrote text 0 (printedLine (bytes "refused") (decimals (e .number ∷ i ∷ []))) text′ r → Reports file table text r T text′
-    file-refused ae le e i g p = reported le _ (refused-text e i (sym ae ∙ g)) p
+    file-refused ae le e i g p = reported le _ (refused-text e i (sym (said-one ae) ∙ g)) p
 
     -- ---- an accepted file
 
-    module _ {a : Answer} (ae : a ≡ readAnswer file table) (n : ℕ) (g : a ≡ Done n) where
+    module _ {a : Answer} (ae : said a ≡ said (readAnswer file table)) (n : ℕ) (g : a ≡ Done n) where
       done : ReadDone file table n
-      done = read-done file table n (sym ae ∙ g)
+      done = read-done file table n (sym (said-one ae) ∙ g)
 
       good : Good (readLeaves file table) n (done .rows)
       good =

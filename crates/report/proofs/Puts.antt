@@ -21,8 +21,10 @@ use Rattle.rules.specs.declared.DiameterAnswer.the-variants as D
 use Rattle.rules.specs.Numbers.{maxTool}
 use Rattle.rules.specs.State.{metricUnit}
 use Rattle.tools.specs.Set.{has}
+use Rattle.rules.specs.Answers.{holeSaid, diameterSaid}
 use Rattle.rules.specs.Asking.{holeAnswer, diameterAnswer}
 use Rattle.rules.specs.Printing.{decimal, printedLine, holeFields, holeLine, oneHole}
+use Rattle.rules.proofs.Said.{hole-said-one, diameter-said-one}
 use Rattle.text.specs.Wrote.{Wrote}
 use Rattle.text.proofs.Wrote.{wrote-nothing, wrote-more}
 use Rattle.print.specs.Line.{decimals}
@@ -41,35 +43,42 @@ module _ {b b′ : List ℕ} {at r : ℕ} (u : ℕ) where
 
 -- ---- a tool
 
+diameter-told : (t : List ℤ) (n tool : ℕ) {a x : DiameterAnswer} → diameterSaid a ≡ diameterSaid (diameterAnswer t n tool) → a ≡ x → diameterAnswer t n tool ≡ x
+diameter-told t n tool g k = sym (diameter-said-one g) ∙ k
+
 module _ (t : List ℤ) (n : ℕ) (d : Tools) (tool : ℕ) {h : Bool} (e : h ≡ has d tool) {b : List ℕ} {at : ℕ} where
   pub tool-none : not h ≡ true → Wrote b at (lineOfTool t n d tool) b at
   unfolding lineOfTool
   tool-none f = rw (sym e ∙ not-true h f) wrote-nothing
 
-  module _ (f : not h ≡ false) {a : DiameterAnswer} (g : a ≡ diameterAnswer t n tool) where
+  module _ (f : not h ≡ false) {a : DiameterAnswer} (g : diameterSaid a ≡ diameterSaid (diameterAnswer t n tool)) where
     pub tool-refused : (x : Refusal) (i : ℕ) → a ≡ D.Refused x i → Wrote b at (lineOfTool t n d tool) b at
     unfolding lineOfTool
-    tool-refused x i k = rw (sym e ∙ not-false h f, sym g ∙ k) wrote-nothing
+    tool-refused x i k = rw (sym e ∙ not-false h f, diameter-told t n tool g k) wrote-nothing
 
     pub tool-put : (m : ℕ) → a ≡ D.Is m → {b′ : List ℕ} {r : ℕ} → Wrote b at (printedLine (bytes "tool") (decimals (tool ∷ m ∷ []))) b′ r
         → Wrote b at (lineOfTool t n d tool) b′ r
     unfolding lineOfTool decimals
-    tool-put m k p = rw (sym e ∙ not-false h f, sym g ∙ k) p
+    tool-put m k p = rw (sym e ∙ not-false h f, diameter-told t n tool g k) p
 
 -- ---- a line
 
-module _ (t : List ℤ) (n line : ℕ) {a : HoleAnswer} (g : a ≡ holeAnswer t n line) (b : List ℕ) (at : ℕ) where
-  abbrev LinePut : List ℕ → ℕ → ℕ → Type 0
-  LinePut b′ r c = Wrote b at (holeLine line (holeAnswer t n line)) b′ r × (c ≡ oneHole (holeAnswer t n line)) × (c ≤ 1)
+hole-told : (t : List ℤ) (n line : ℕ) {a x : HoleAnswer} → holeSaid a ≡ holeSaid (holeAnswer t n line) → a ≡ x → holeAnswer t n line ≡ x
+hole-told t n line g k = sym (hole-said-one g) ∙ k
 
-  pub line-nothing : a ≡ Nothing → LinePut b at 0
-  line-nothing k = rw (sym g ∙ k) (wrote-nothing, refl, lit≤ tt)
+module _ (t : List ℤ) (n line : ℕ) where
+  abbrev LinePut : List ℕ → ℕ → List ℕ → ℕ → ℕ → Type 0
+  LinePut b at b′ r c = Wrote b at (holeLine line (holeAnswer t n line)) b′ r × (c ≡ oneHole (holeAnswer t n line)) × (c ≤ 1)
 
-  pub line-refused : (x : Refusal) (i : ℕ) → a ≡ Refused x i → LinePut b at 0
-  line-refused x i k = rw (sym g ∙ k) (wrote-nothing, refl, lit≤ tt)
+  module _ {a : HoleAnswer} (g : holeSaid a ≡ holeSaid (holeAnswer t n line)) (b : List ℕ) (at : ℕ) where
+    pub line-nothing : a ≡ Nothing → LinePut b at b at 0
+    line-nothing k = rw (hole-told t n line g k) (wrote-nothing, refl, lit≤ tt)
 
-  pub line-makes : (h : Hole) → a ≡ Makes h → (b′ : List ℕ) (r : ℕ) → Wrote b at (printedLine (decimal line) (holeFields h)) b′ r → LinePut b′ r 1
-  line-makes h k b′ r p = rw (sym g ∙ k) (p, refl, lit≤ tt)
+    pub line-refused : (x : Refusal) (i : ℕ) → a ≡ Refused x i → LinePut b at b at 0
+    line-refused x i k = rw (hole-told t n line g k) (wrote-nothing, refl, lit≤ tt)
+
+    pub line-makes : (h : Hole) → a ≡ Makes h → (b′ : List ℕ) (r : ℕ) → Wrote b at (printedLine (decimal line) (holeFields h)) b′ r → LinePut b at b′ r 1
+    line-makes h k b′ r p = rw (hole-told t n line g k) (p, refl, lit≤ tt)
 
 -- ---- the table
 

@@ -1,2 +1,3 @@
 pub mod Same
+pub mod Said
 pub mod Tests

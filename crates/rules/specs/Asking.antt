@@ -21,25 +21,6 @@ use Rattle.rules.specs.Rows.{entriesOf, sizesFit}
 use Rattle.rules.specs.Holes.{holeOf}
 use Rattle.rules.specs.Editing.{isLine, entryAt, beforeLine, onBefore}
 
--- the numbers of document 01 behind the two answers
-abbrev pub holeNumber : HoleAnswer → ℕ
-holeNumber (H.Makes h) = 0
-holeNumber H.Nothing = 0
-holeNumber (H.Refused e i) = e .number
-
-abbrev pub holeValue : HoleAnswer → ℕ
-holeValue (H.Makes h) = 1
-holeValue H.Nothing = 0
-holeValue (H.Refused e i) = i
-
-abbrev pub diameterNumber : DiameterAnswer → ℕ
-diameterNumber (Is d) = 0
-diameterNumber (Refused e i) = e .number
-
-abbrev pub diameterValue : DiameterAnswer → ℕ
-diameterValue (Is d) = d
-diameterValue (Refused e i) = i
-
 -- the hole of line k: the row before is tested, if there is one, then the row itself
 abbrev pub onRow {ℓ} : {A : Type ℓ} → Entry Command State → A → (M.Row Command State → A) → A
 onRow bad z f = z

@@ -23,16 +23,6 @@ use Rattle.rules.specs.Commands.{saysNo, lineOf}
 use Rattle.rules.specs.State.{start, taken, hasEnded}
 use Rattle.rules.specs.Rows.{rowWidth, tableNumbers}
 
--- an answer's number in document 01: 0 on success, else the refusal's
-abbrev pub numberOf : Answer → ℕ
-numberOf (Done n) = 0
-numberOf (Refused e i) = e .number
-
--- the count on success, else the refusal's line
-abbrev pub valueOf : Answer → ℕ
-valueOf (Done n) = n
-valueOf (Refused e i) = i
-
 abbrev pub sayOut : LineAnswer → Out Command Refusal
 sayOut a = cond (eqb (a .refusal .number) 0) (yields (a .command)) (stops (a .refusal))
 

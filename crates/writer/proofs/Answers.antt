@@ -16,6 +16,7 @@ use Rattle.rules.specs.declared.Answer.the-variants.{Done, Refused}
 use Rattle.rules.specs.Refusals.{badTable, noRoom}
 use Rattle.rules.specs.State.{start}
 use Rattle.rules.specs.Rows.{entriesOf, sizesFit, Sizes}
+use Rattle.rules.specs.Answers.{said}
 use Rattle.rules.specs.Reading.{Rows}
 use Rattle.rules.specs.Writing.{textOfRows, followFrom, rowsOf, inBlock, withText, writeAnswer, writeLeaves}
 use Rattle.laws.proofs.Sizes.{sizes-say}
@@ -23,7 +24,7 @@ use Rattle.writer.specs.Walk.{bytesFrom, textOfEntries}
 use Rattle.writer.proofs.Walk.{text-follows}
 
 abbrev WriteIs : List ℤ → ℕ → List ℕ → Answer → List ℕ → Type 0
-WriteIs t n b r b′ = (r ≡ writeAnswer t n b) × (b′ ≡ writeLeaves t n b)
+WriteIs t n b r b′ = (said r ≡ said (writeAnswer t n b)) × (b′ ≡ writeLeaves t n b)
 
 -- what measuring tells says what the verdict is
 verdict-refused : (v : Verdict Rows Refusal) (e : Refusal) (i : ℕ) → Refused e i ≡ bytesFrom 0 v → v ≡ refused e i
@@ -47,7 +48,7 @@ module _ (t : List ℤ) (n : ℕ) (b : List ℕ) where
   from-verdict : (v : Verdict Rows Refusal) → rowsOf t n ≡ v → (r : Answer) (b′ : List ℕ)
       → (r ≡ onVerdict v Refused (λ rs. inBlock b (textOfRows rs))) × (b′ ≡ onVerdict v (λ e i. b) (λ rs. withText b (textOfRows rs))) → WriteIs t n b r b′
   unfolding writeAnswer writeLeaves
-  from-verdict v e r b′ h = rw e h
+  from-verdict v e r b′ h = rw e (ap said (h .0), h .1)
 
   module _ {fit : Bool} (fe : fit ≡ sizesFit t n) where
     pub write-sizes : not fit ≡ true → WriteIs t n b (Refused badTable 0) b

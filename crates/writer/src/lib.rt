@@ -6,6 +6,7 @@ ghost use Rattle.lists.specs.Put.{putIn};
 ghost use Rattle.rules.specs.Numbers.{maxLines};
 ghost use Rattle.rules.specs.Rows.{rowWidth, entriesOf};
 ghost use Rattle.rules.specs.State.{start};
+ghost use Rattle.rules.specs.Answers.{said};
 ghost use Rattle.rules.specs.Writing.{followFrom, writeAnswer, writeLeaves};
 ghost use Rattle.writer.specs.Walk.{bytesFrom, textOfEntries};
 use rules::Answer;
@@ -68,7 +69,7 @@ fn put_rows(table: &[i32], n: usize, text: &mut [u8])
 /// A whole number has no point: two millimetres are `X2`, which is legal. Some older programs guess a point where a
 /// number has none, and misplace such holes.
 pub fn write(table: &[i32], n: usize, text: &mut [u8]) -> Answer
-    ensures { λ r. ⌜ (r ≡ writeAnswer (now (table .entry)) n (now (text .entry))) × (now (text .exit) ≡ writeLeaves (now (table .entry)) n (now (text .entry))) ⌝ }
+    ensures { λ r. ⌜ (said r ≡ said (writeAnswer (now (table .entry)) n (now (text .entry)))) × (now (text .exit) ≡ writeLeaves (now (table .entry)) n (now (text .entry))) ⌝ }
 {
     if !table::sizes_fit(table, n) {
         return Answer::Refused(BAD_TABLE, 0);

@@ -1,5 +1,5 @@
 -- A hole's seven numbers in a block, and the answer of the hole's door.
-use mathlib.Core.Path.{_≡_, sym, _∙_}
+use mathlib.Core.Path.{_≡_, refl, sym, _∙_}
 use mathlib.Core.List.{List, [], _∷_}
 use Prim.Native.Nat.{ℕ, _<_, _≤_}
 use native.Mathlib.Omega.{arith}
@@ -16,9 +16,11 @@ use Rattle.rules.specs.declared.Hole.{Hole}
 use Rattle.rules.specs.declared.HoleAnswer.{HoleAnswer}
 use Rattle.rules.specs.declared.HoleAnswer.the-variants as H
 use Rattle.rules.specs.Refusals.{noRoom}
+use Rattle.rules.specs.Answers.{holeNumbers, holeSaid}
 use Rattle.rules.specs.Asking.{holeAnswer}
+use Rattle.rules.proofs.Said.{hole-said-one}
 use Rattle.answers.proofs.HoleRanges.{hole-in-range}
-use Rattle.xnc.specs.Door.{packedRefusal, holeWidth, HoleOk, holeNumbers, withBlock, holePacked, holeLeaves}
+use Rattle.xnc.specs.Door.{packedRefusal, holeWidth, HoleOk, withBlock, holePacked, holeLeaves}
 
 -- ---- seven numbers
 
@@ -62,34 +64,42 @@ put-seven b n h ok sx sy ex ey =
     )
     (seven b n (pos (h .kind)) (pos (h .tool)) (h .start .x) (h .start .y) (h .end .x) (h .end .y) (pos (h .radius)))
 
--- ---- a hole that the table gives fits
-
-pub made-ok : (t : List ℤ) (n k : ℕ) (h : Hole) {a : HoleAnswer} → a ≡ holeAnswer t n k → a ≡ H.Makes h → HoleOk h
-made-ok t n k h e f =
-    let r = hole-in-range t n k h (sym e ∙ f) in
-    record { kind-range = omega (arith, r .kind-range); tool-range = omega (arith, r .tool-range); radius-range = omega (arith, r .radius-range) }
-
 -- ---- the answers
 
-module _ {a x : HoleAnswer} (e : a ≡ x) (b : List ℤ) where
-  pub door-refused : {r : ℕ} (f : Refusal) (i : ℕ) → a ≡ H.Refused f i → r ≡ packedRefusal f i → (r ≡ holePacked x b) × (b ≡ holeLeaves x b)
-  unfolding holePacked holeLeaves withBlock
-  door-refused f i w q = (q ∙ rw (sym e ∙ w), rw (sym e ∙ w))
+module _ (t : List ℤ) (n k : ℕ) where
+  -- what the door answers, and leaves of the block
+  abbrev DoorIs : List ℤ → ℕ → List ℤ → Type 0
+  DoorIs b r b′ = (r ≡ holePacked (holeAnswer t n k) b) × (b′ ≡ holeLeaves (holeAnswer t n k) b)
 
-  module _ (w : a ≡ H.Nothing) where
-    pub door-none-short : {r : ℕ} → length b < holeWidth → r ≡ packedRefusal noRoom 0 → (r ≡ holePacked x b) × (b ≡ holeLeaves x b)
-    unfolding holePacked holeLeaves withBlock
-    door-none-short h q = (q ∙ rw (sym e ∙ w, lt-leb holeWidth (length b) h), rw (sym e ∙ w, lt-leb holeWidth (length b) h))
+  module _ {a : HoleAnswer} (e : holeSaid a ≡ holeSaid (holeAnswer t n k)) where
+    told : {x : HoleAnswer} → a ≡ x → holeAnswer t n k ≡ x
+    told w = sym (hole-said-one e) ∙ w
 
-    pub door-none : holeWidth ≤ length b → (0 ≡ holePacked x b) × (b ≡ holeLeaves x b)
-    unfolding holePacked holeLeaves withBlock
-    door-none h = (rw (sym e ∙ w, le-leb holeWidth (length b) h), rw (sym e ∙ w, le-leb holeWidth (length b) h))
+    -- a hole that the table gives fits
+    pub made-ok : (h : Hole) → a ≡ H.Makes h → HoleOk h
+    made-ok h w =
+        let r = hole-in-range t n k h (told w) in
+        record { kind-range = omega (arith, r .kind-range); tool-range = omega (arith, r .tool-range); radius-range = omega (arith, r .radius-range) }
 
-  module _ (m : Hole) (w : a ≡ H.Makes m) where
-    pub door-short : {r : ℕ} → length b < holeWidth → r ≡ packedRefusal noRoom 0 → (r ≡ holePacked x b) × (b ≡ holeLeaves x b)
-    unfolding holePacked holeLeaves withBlock
-    door-short h q = (q ∙ rw (sym e ∙ w, lt-leb holeWidth (length b) h), rw (sym e ∙ w, lt-leb holeWidth (length b) h))
+    module _ (b : List ℤ) where
+      pub door-refused : {r : ℕ} (f : Refusal) (i : ℕ) → a ≡ H.Refused f i → r ≡ packedRefusal f i → DoorIs b r b
+      unfolding holePacked holeLeaves withBlock
+      door-refused f i w q = (q ∙ rw (told w), rw (told w))
 
-    pub door-makes : holeWidth ≤ length b → (b′ : List ℤ) → b′ ≡ putAt b 0 (holeNumbers m) → (1 ≡ holePacked x b) × (b′ ≡ holeLeaves x b)
-    unfolding holePacked holeLeaves withBlock
-    door-makes h b′ q = (rw (sym e ∙ w, le-leb holeWidth (length b) h), q ∙ rw (sym e ∙ w, le-leb holeWidth (length b) h))
+      module _ (w : a ≡ H.Nothing) where
+        pub door-none-short : {r : ℕ} → length b < holeWidth → r ≡ packedRefusal noRoom 0 → DoorIs b r b
+        unfolding holePacked holeLeaves withBlock
+        door-none-short h q = (q ∙ rw (told w, lt-leb holeWidth (length b) h), rw (told w, lt-leb holeWidth (length b) h))
+
+        pub door-none : holeWidth ≤ length b → DoorIs b 0 b
+        unfolding holePacked holeLeaves withBlock
+        door-none h = rw (told w, le-leb holeWidth (length b) h) (refl, sym (put-none b 0))
+
+      module _ (m : Hole) (w : a ≡ H.Makes m) where
+        pub door-short : {r : ℕ} → length b < holeWidth → r ≡ packedRefusal noRoom 0 → DoorIs b r b
+        unfolding holePacked holeLeaves withBlock
+        door-short h q = (q ∙ rw (told w, lt-leb holeWidth (length b) h), rw (told w, lt-leb holeWidth (length b) h))
+
+        pub door-makes : holeWidth ≤ length b → (b′ : List ℤ) → b′ ≡ putAt b 0 (holeNumbers m) → DoorIs b 1 b′
+        unfolding holePacked holeLeaves withBlock holeNumbers
+        door-makes h b′ q = rw (told w, le-leb holeWidth (length b) h) (refl, q)

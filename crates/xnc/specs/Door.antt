@@ -3,15 +3,14 @@ use mathlib.Core.Bool.{cond}
 use mathlib.Core.List.{List, [], _∷_}
 use Prim.Native.Nat.{ℕ, _+_, _*_, _≤_}
 use lib.Dec.{leb}
-use lib.IntN.{ℤ, pos}
+use lib.IntN.{ℤ}
 use lib.ListN.{length}
 use Rattle.lists.specs.Put.{putAt}
 use Rattle.rules.specs.declared.Hole.{Hole}
 use Rattle.rules.specs.declared.HoleAnswer.{HoleAnswer}
 use Rattle.rules.specs.declared.HoleAnswer.the-variants as H
 use Rattle.rules.specs.Refusals.{noRoom}
-use Rattle.rules.specs.Reading.{numberOf, valueOf}
-use Rattle.rules.specs.Asking.{holeNumber, holeValue}
+use Rattle.rules.specs.Answers.{Said, success, refusal, numberOf, valueOf, said, holeSaid}
 use Rattle.rules.specs.declared.Refusal.{Refusal}
 use Rattle.rules.specs.declared.Answer.{Answer}
 
@@ -26,15 +25,12 @@ abbrev pub packedRefusal : Refusal → ℕ → ℕ
 packedRefusal e i = both (e .number) i
 
 unfoldable pub packed : Answer → ℕ
-packed a = both (numberOf a) (valueOf a)
+packed a = both (numberOf (said a)) (valueOf (said a))
 
 -- ---- a hole as seven numbers
 
 abbrev pub holeWidth : ℕ
 holeWidth = 7
-
-unfoldable pub holeNumbers : Hole → List ℤ
-holeNumbers h = pos (h .kind) ∷ pos (h .tool) ∷ h .start .x ∷ h .start .y ∷ h .end .x ∷ h .end .y ∷ pos (h .radius) ∷ []
 
 -- its numbers fit the block's
 pub record HoleOk (h : Hole) : Type 0 where
@@ -48,14 +44,19 @@ withBlock (H.Makes h) b = cond (leb holeWidth (length b)) (H.Makes h) (H.Refused
 withBlock H.Nothing b = cond (leb holeWidth (length b)) H.Nothing (H.Refused noRoom 0)
 withBlock (H.Refused e i) b = H.Refused e i
 
--- 1 where there is a hole, 0 where there is none
-unfoldable pub holePacked : HoleAnswer → List ℤ → ℕ
-holePacked a b = both (holeNumber (withBlock a b)) (holeValue (withBlock a b))
+-- 1 where there is a hole, 0 where there is none; else the refusal's line
+abbrev pub holeValue : Said → ℕ
+holeValue (success []) = 0
+holeValue (success (v ∷ vs)) = 1
+holeValue (refusal e i) = i
 
-abbrev pub leftOf : HoleAnswer → List ℤ → List ℤ
-leftOf (H.Makes h) b = putAt b 0 (holeNumbers h)
-leftOf H.Nothing b = b
-leftOf (H.Refused e i) b = b
+unfoldable pub holePacked : HoleAnswer → List ℤ → ℕ
+holePacked a b = both (numberOf (holeSaid (withBlock a b))) (holeValue (holeSaid (withBlock a b)))
+
+-- the values of the answer, put first
+abbrev pub leftOf : Said → List ℤ → List ℤ
+leftOf (success vs) b = putAt b 0 vs
+leftOf (refusal e i) b = b
 
 unfoldable pub holeLeaves : HoleAnswer → List ℤ → List ℤ
-holeLeaves a b = leftOf (withBlock a b) b
+holeLeaves a b = leftOf (holeSaid (withBlock a b)) b

@@ -4,11 +4,12 @@ ghost use mathlib.Core.Path.{_≡_};
 ghost use Prim.Native.Nat.{_≤_, _<_};
 ghost use lib.ListN.{length};
 ghost use Rattle.lists.specs.Put.{putAt};
-ghost use Rattle.rules.specs.Reading.{valueOf, readAnswer, readLeaves};
+ghost use Rattle.rules.specs.Answers.{valueOf, said, holeNumbers};
+ghost use Rattle.rules.specs.Reading.{readAnswer, readLeaves};
 ghost use Rattle.rules.specs.Editing.{editAnswer, editLeaves};
 ghost use Rattle.rules.specs.Writing.{writeAnswer, writeLeaves};
 ghost use Rattle.rules.specs.Asking.{holeAnswer};
-ghost use Rattle.xnc.specs.Door.{holeWidth, shift, packed, packedRefusal, HoleOk, holeNumbers, holePacked, holeLeaves};
+ghost use Rattle.xnc.specs.Door.{holeWidth, shift, packed, packedRefusal, HoleOk, holePacked, holeLeaves};
 use rules::Answer;
 use rules::Hole;
 use rules::HoleAnswer;
@@ -29,7 +30,7 @@ fn pack_refusal(refusal: Refusal, line: usize) -> u64
 }
 
 fn pack(answer: Answer) -> u64
-    requires { ⌜ valueOf answer < shift ⌝ }
+    requires { ⌜ valueOf (said answer) < shift ⌝ }
     ensures { λ r. ⌜ r ≡ packed answer ⌝ }
 {
     match answer {

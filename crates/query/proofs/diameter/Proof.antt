@@ -1,8 +1,10 @@
 -- The sizes, then the tool's range, both sides of it; past them the rows tell.
+use mathlib.Core.Path.{ap}
 use native.Mathlib.Omega.{arith}
 use borrow.Author.Tests.{le-leb, lt-leb}
 use Rattle.lists.proofs.Choice.{failed, passed}
 use Rattle.rules.specs.Numbers.{maxTool, isTool}
+use Rattle.rules.specs.Answers.{diameterSaid}
 use Rattle.rules.specs.Asking.{diameterAnswer}
 use Rattle.laws.proofs.Sizes.{sizes-say}
 use borrow.Author.Needs.{needs}
@@ -34,7 +36,7 @@ returns-4 c =
       passed (c .before .before .before .before .sizes-fit .ensures) (c .before .before .before .if1 .left),
       le-leb 1 tool (omega arith),
       le-leb tool maxTool (c .before .if3 .left),
-    ) (c .find-diameter .ensures)
+    ) (ap diameterSaid (c .find-diameter .ensures))
 
 pub diameter-spec : {M : Type 1} → statement M
 diameter-spec =

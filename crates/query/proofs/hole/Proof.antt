@@ -1,5 +1,5 @@
 -- Each test that fails is a refusal; past them all the two rows looked at make the hole.
-use mathlib.Core.Path.{_≡_, sym, _∙_}
+use mathlib.Core.Path.{_≡_, sym, ap, _∙_}
 use mathlib.Core.Bool.{Bool, false, not}
 use mathlib.Core.List.{List}
 use Prim.Native.Nat.{ℕ, _-_}
@@ -11,6 +11,7 @@ use Rattle.rules.specs.Refusals.{badTable}
 use Rattle.rules.specs.Rows.{sizesFit}
 use Rattle.rules.specs.Holes.{holeOf}
 use Rattle.rules.specs.Editing.{isLine, beforeLine, onBefore}
+use Rattle.rules.specs.Answers.{holeSaid}
 use Rattle.rules.specs.Asking.{onRow, holeIn, holeAnswer}
 use Rattle.laws.proofs.Sizes.{sizes-say, line-says}
 use Rattle.table.specs.Table.{rowAt}
@@ -20,8 +21,8 @@ use Rattle.query.proofs.hole.Statement.{statement}
 use Rattle.query.proofs.hole.Tie as tie
 
 module _ (t : List ℤ) (n k : ℕ) {fit is : Bool} (fe : fit ≡ sizesFit t n) (f : not fit ≡ false) (ie : is ≡ isLine n k) (i : not is ≡ false) where
-  rows-tell : holeAnswer t n k ≡ onBefore (beforeLine k (rowAt t (k - 1))) (H.Refused badTable (k - 1))
-      (λ p. onRow (rowAt t k) (H.Refused badTable k) (λ r. holeOf (p .at) (r .command) (r .state)))
+  rows-tell : holeSaid (holeAnswer t n k) ≡ holeSaid (onBefore (beforeLine k (rowAt t (k - 1))) (H.Refused badTable (k - 1))
+      (λ p. onRow (rowAt t k) (H.Refused badTable k) (λ r. holeOf (p .at) (r .command) (r .state))))
   unfolding holeAnswer holeIn
   rows-tell =
       let room = sizes-say t n (passed fe f) .room in
@@ -60,7 +61,7 @@ returns-4 c =
 returns-5 : tie.Need-returns-5
 returns-5 c =
     let e = c .before .before .before .before .before .before .before .before .before .before in
-    c .hole .ensures
+    ap holeSaid (c .hole .ensures)
     ∙ sym (rows-tell _ _ _ (e .before .before .before .sizes-fit .ensures) (e .before .before .if1 .left) (e .before .is-line .ensures) (e .if2 .left)
     ∙ rw (
       sym (c .before .before .before .before .before .before .before .before .before .state-before .ensures)
