@@ -1,5 +1,5 @@
--- The demands once more, of the code: of calls as the functions' contracts allow them.
-use mathlib.Core.Path.{_≡_, sym, ap, _∙_, subst, subst₂}
+-- The demands, of calls: a contract says that the answer, and what is left, is what the definition says.
+use mathlib.Core.Path.{_≡_, refl, sym, ap, _∙_, subst, subst₂}
 use mathlib.Core.Bool.{true}
 use mathlib.Core.List.{List}
 use Prim.Native.Nat.{ℕ, _*_, _≤_}
@@ -9,23 +9,28 @@ use Rattle.lists.specs.Put.{putAt}
 use Rattle.rules.specs.declared.Refusal.{Refusal}
 use Rattle.rules.specs.declared.Answer.{Answer}
 use Rattle.rules.specs.declared.Answer.the-variants.{Done, Refused}
-use Rattle.rules.specs.Numbers.{maxFile, maxLines}
+use Rattle.rules.specs.declared.HoleAnswer.{HoleAnswer}
+use Rattle.rules.specs.Numbers.{maxFile}
 use Rattle.rules.specs.Rows.{rowWidth, tableNumbers, Good}
-use Rattle.rules.specs.Reading.{Rows, readAnswer, readLeaves}
+use Rattle.rules.specs.Reading.{Rows, rowOf, stateBefore, readAnswer, readLeaves}
 use Rattle.rules.specs.Editing.{noLineEnd, editAnswer, editLeaves}
+use Rattle.rules.specs.Asking.{holeAnswer}
+use Rattle.rules.specs.Holes.{holeOf}
 use Rattle.rules.specs.Writing.{textOfRows, writeAnswer, writeLeaves}
-use Rattle.rules.specs.Obeys.{Obeys}
-use Rattle.rules.proofs.Said.{said-one}
+use Rattle.rules.specs.Obeys.{ReadingOf}
+use Rattle.rules.proofs.Said.{said-one, hole-said-one}
 use Rattle.round.specs.Comments.{withoutComments}
 use Rattle.demands.specs.EditedFile.{LineOf, edited}
-use Rattle.demands.specs.Demand2.{HoldsReading}
 use Rattle.demands.specs.Demand3.{SameVerdict, SpanIs, AsReadAfresh}
 use Rattle.answers.proofs.WrittenTable.{good-rows, write-done}
 use Rattle.demands.proofs.Demand1.{demand-1}
 use Rattle.demands.proofs.Demand2.{demand-2}
 use Rattle.demands.proofs.Demand3.{demand-3}
-use Rattle.demands.proofs.WriteBack.{write-back}
-use Rattle.promises.specs.Calls.{ReadCall, EditCall, WriteCall}
+use Rattle.demands.proofs.WriteRefused.{write-exactly}
+use Rattle.demands.proofs.HoleRefused.{hole-refused-exactly}
+use Rattle.demands.proofs.EditRefused.{edit-refused-exactly}
+use Rattle.promises.specs.Calls.{ReadCall, EditCall, HoleCall, WriteCall}
+use Rattle.promises.specs.OfTheCode.{ReadsFile, OfTheCode}
 
 -- ---- what the contracts say of a call
 
@@ -40,6 +45,9 @@ edit-says c = (
   sym (c .left-is) ∙ c .promised .leaves ∙ rw (c .table-is, c .n-is, c .line-is, c .text-is),
 )
 
+hole-says : {table : List ℤ} {n line : ℕ} {answer : HoleAnswer} → HoleCall table n line answer → answer ≡ holeAnswer table n line
+hole-says c = hole-said-one (c .promised ∙ rw (c .table-is, c .n-is, c .line-is))
+
 write-says : {table : List ℤ} {n : ℕ} {text left : List ℕ} {answer : Answer} → WriteCall table n text answer left
     → (answer ≡ writeAnswer table n text) × (left ≡ writeLeaves table n text)
 write-says c = (
@@ -47,39 +55,49 @@ write-says c = (
   sym (c .left-is) ∙ c .promised .1 ∙ rw (c .table-is, c .n-is, c .text-is),
 )
 
--- ---- demand 1: a refused call leaves what was lent as it was
+-- what holds exactly of an answer holds exactly of any that equals it
+exactly : {A : Type 0} {P : Type 0} {a b x : A} → a ≡ b → (b ≡ x → P) × (P → b ≡ x) → (a ≡ x → P) × (P → a ≡ x)
+exactly e w = (λ h. w .0 (sym e ∙ h), λ p. e ∙ w .1 p)
 
-pub refused-read : {file : List ℕ} {table left : List ℤ} {e : Refusal} {i : ℕ} → ReadCall file table (Refused e i) left → left ≡ table
-refused-read {file} {table} {e = e} {i} c = let s = read-says c in s .1 ∙ demand-1 .read file table .refused e i (sym (s .0)) .0
+-- ---- reading
 
-pub refused-edit : {table left : List ℤ} {n line : ℕ} {text : List ℕ} {e : Refusal} {i : ℕ} → EditCall table n line text (Refused e i) left → left ≡ table
-refused-edit {table} {n = n} {line} {text} {e} {i} c = let s = edit-says c in s .1 ∙ demand-1 .edit table n line text .refused e i (sym (s .0)) .0
+module _ (file : List ℕ) (table : List ℤ) (answer : Answer) (left : List ℤ) (c : ReadCall file table answer left) where
+  accepted : (rs : Rows) → ReadingOf file rs → rowWidth * length rs ≤ length table
+      → (answer ≡ Done (length rs)) × (left ≡ putAt table 0 (tableNumbers rs)) × Good left (length rs) rs
+  accepted rs w h =
+      let s = read-says c in
+      let d = demand-2 .reads file table .accepted rs w h in
+      let k = demand-2 .reads file table .holds (length rs) rs d w in
+      (s .0 ∙ d, s .1 ∙ k .numbers, subst (λ (t : List ℤ). Good t (length rs) rs) (sym (s .1)) (k .good))
 
-pub refused-write : {table : List ℤ} {n : ℕ} {text left : List ℕ} {e : Refusal} {i : ℕ} → WriteCall table n text (Refused e i) left → left ≡ text
-refused-write {table} {n} {text} {e = e} {i} c = let s = write-says c in s .1 ∙ demand-1 .write table n text .refused e i (sym (s .0)) .0
+  holes : (n : ℕ) (rs : Rows) → answer ≡ Done n → ReadingOf file rs → (k : ℕ) → 1 ≤ k → k ≤ n → (hole : HoleAnswer) → HoleCall left n k hole
+      → hole ≡ holeOf (stateBefore rs k .at) (rowOf rs k .command) (rowOf rs k .state)
+  holes n rs e w k a b hole d =
+      let s = read-says c in
+      hole-says d ∙ ap (λ (t : List ℤ). holeAnswer t n k) (s .1) ∙ demand-2 .reads file table .holds n rs (sym (s .0) ∙ e) w .holes k a b
 
--- ---- demand 2: a file is accepted exactly where it obeys, and its table is that of its reading; what is written reads back
+  reads-file : ReadsFile file table answer left
+  reads-file =
+      let s = read-says c in
+      record {
+        refused = λ e i h. s .1 ∙ demand-1 .read file table .refused e i (sym (s .0) ∙ h) .0;
+        obeys = λ n h. demand-2 .reads file table .obeys n (sym (s .0) ∙ h);
+        accepted = accepted;
+        refused-exactly = λ e i. exactly (s .0) (demand-2 .reads file table .refused e i);
+        holes = holes;
+      }
 
-pub accepted-obeys : {file : List ℕ} {table left : List ℤ} {n : ℕ} → ReadCall file table (Done n) left → Obeys file
-accepted-obeys {file} {table} {n = n} c = demand-2 .reads file table .obeys n (sym (read-says c .0))
+-- ---- what was written, read back
 
-pub obeys-accepted : {file : List ℕ} {table left : List ℤ} {answer : Answer} (w : Obeys file) → rowWidth * maxLines ≤ length table → ReadCall file table answer left
-    → (answer ≡ Done (length (w .rows))) × (left ≡ putAt table 0 (tableNumbers (w .rows))) × Good left (length (w .rows)) (w .rows)
-obeys-accepted {file} {table} {left} w h c =
-    let s = read-says c in
-    let r = demand-2 .reads file table in
-    let d : readAnswer file table ≡ Done (length (w .rows)) = r .accepted-all h w in
-    let k : HoldsReading file table (length (w .rows)) (w .rows) = r .holds (length (w .rows)) (w .rows) d (w .reading) in
-    (s .0 ∙ d, s .1 ∙ k .numbers, subst (λ (t : List ℤ). Good t (length (w .rows)) (w .rows)) (sym (s .1)) (k .good))
-
-pub written-read-back : {table lent left : List ℤ} {n m : ℕ} {rs : Rows} {block text : List ℕ} {answer : Answer} → Good table n rs
-    → WriteCall table n block (Done m) text → rowWidth * length (withoutComments rs) ≤ length lent → ReadCall (take m text) lent answer left
+read-back : (table : List ℤ) (n : ℕ) (rs : Rows) → Good table n rs → (block : List ℕ) (m : ℕ) (text : List ℕ)
+    → WriteCall table n block (Done m) text → (lent : List ℤ) → rowWidth * length (withoutComments rs) ≤ length lent
+    → (answer : Answer) (left : List ℤ) → ReadCall (take m text) lent answer left
     → (answer ≡ Done (length (withoutComments rs))) × (left ≡ putAt lent 0 (tableNumbers (withoutComments rs)))
-written-read-back {table} {lent} {left} {n} {m} {rs} {block} {text} {answer} g c h d =
+read-back table n rs g block m text c lent h answer left d =
     let s = write-says c in
     let f = write-done table n block m (sym (s .0)) in
     let e : f .rows ≡ rs = let q = sym (f .verdict) ∙ good-rows table n rs g in cc in
-    let b = write-back table n rs g in
+    let b = demand-2 .writes-back table n rs g in
     let o = b .writes block (subst (λ (z : Rows). length (textOfRows z) ≤ length block) e (f .room)) in
     let k : m ≡ length (textOfRows rs) = sym (f .counted) ∙ ap (λ (z : Rows). length (textOfRows z)) e in
     let x : take m text ≡ textOfRows rs = rw (k, s .1) (o .found) in
@@ -87,20 +105,32 @@ written-read-back {table} {lent} {left} {n} {m} {rs} {block} {text} {answer} g c
     let back = b .reads-back lent h in
     (r .0 ∙ ap (λ (z : List ℕ). readAnswer z lent) x ∙ back .answer, r .1 ∙ ap (λ (z : List ℕ). readLeaves z lent) x ∙ back .table)
 
--- ---- demand 3: an edit of a table read from an accepted file answers and leaves what reading the edited file afresh into that
--- same table does; its meeting line is the first agreement of states, and nothing outside its span changes
+-- ---- an edit, and the edited file read afresh
 
-pub edited-as-read-afresh : {file : List ℕ} {lent table after fresh : List ℤ} {n k : ℕ} {text : List ℕ} {edit-answer fresh-answer : Answer}
-    → ReadCall file lent (Done n) table → (w : LineOf file k) → noLineEnd text ≡ true → length (edited w text) ≤ maxFile
-    → EditCall table n k text edit-answer after → ReadCall (edited w text) table fresh-answer fresh
+as-afresh : (file : List ℕ) (lent : List ℤ) (n : ℕ) (table : List ℤ) → ReadCall file lent (Done n) table
+    → (k : ℕ) (w : LineOf file k) (text : List ℕ) → noLineEnd text ≡ true → length (edited w text) ≤ maxFile
+    → (edit-answer : Answer) (after : List ℤ) → EditCall table n k text edit-answer after
+    → (fresh-answer : Answer) (fresh : List ℤ) → ReadCall (edited w text) table fresh-answer fresh
     → SameVerdict n edit-answer fresh-answer × (after ≡ fresh) × SpanIs file (edited w text) table after n k edit-answer
-edited-as-read-afresh {file} {lent} {table} {n = n} {k} {text} c w hl hb d f =
+as-afresh file lent n table c k w text hl hb edit-answer after d fresh-answer fresh f =
     let old = read-says c in
     let a : AsReadAfresh file (edited w text) table n k text
-    = subst (λ (u : List ℤ). AsReadAfresh file (edited w text) u n k text) (sym (old .1)) (demand-3 file lent n (sym (old .0)) w text hl hb) in
+    = subst (λ (u : List ℤ). AsReadAfresh file (edited w text) u n k text) (sym (old .1)) (demand-3 .as-read-afresh file lent n (sym (old .0)) k w text hl hb) in
     let e = edit-says d in
     let r = read-says f in (
       subst₂ (SameVerdict n) (sym (e .0)) (sym (r .0)) (a .verdict),
       e .1 ∙ a .table ∙ sym (r .1),
       subst₂ (λ (u : List ℤ) (x : Answer). SpanIs file (edited w text) table u n k x) (sym (e .1)) (sym (e .0)) (a .span),
     )
+
+pub of-the-code : OfTheCode
+of-the-code = record {
+  read = reads-file;
+  refused-edit = λ table n line text e i left c. let s = edit-says c in s .1 ∙ demand-1 .edit table n line text .refused e i (sym (s .0)) .0;
+  refused-write = λ table n block e i left c. let s = write-says c in s .1 ∙ demand-1 .write table n block .refused e i (sym (s .0)) .0;
+  edit-exactly = λ table n line text answer left c e i. exactly (edit-says c .0) (edit-refused-exactly .refused table n line text e i);
+  hole-exactly = λ table n line answer c e i. exactly (hole-says c) (hole-refused-exactly .refused table n line e i);
+  write-exactly = λ table n block answer left c e i. exactly (write-says c .0) (write-exactly .writes table n block .refused e i);
+  written-read-back = read-back;
+  edited-as-read-afresh = as-afresh;
+}

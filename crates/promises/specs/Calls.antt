@@ -7,10 +7,13 @@ use contract.Lifetimes.{Lfts}
 use borrow.Fn.Kinds.{Dens, endedOf}
 use denote.Triple.Clauses.{AtExit}
 use Rattle.rules.specs.declared.Answer.{Answer}
+use Rattle.rules.specs.declared.HoleAnswer.{HoleAnswer}
 use Rattle.reader.proofs.read.Kinds as read-kinds
 use Rattle.reader.proofs.read.Reads as read-reads
 use Rattle.editor.proofs.edit.Kinds as edit-kinds
 use Rattle.editor.proofs.edit.Reads as edit-reads
+use Rattle.query.proofs.hole.Kinds as hole-kinds
+use Rattle.query.proofs.hole.Reads as hole-reads
 use Rattle.writer.proofs.write.Kinds as write-kinds
 use Rattle.writer.proofs.write.Reads as write-reads
 
@@ -35,6 +38,16 @@ pub record EditCall (table : List ℤ) (n line : ℕ) (text : List ℕ) (answer 
   pub text-is : given .1 .1 .1 .0 .now ≡ text
   pub left-is : after .0 .now ≡ left
   pub promised : edit-reads.Post lifetimes given answer after
+
+-- hole(table, n, line)
+pub record HoleCall (table : List ℤ) (n line : ℕ) (answer : HoleAnswer) : Type 0 where
+  pub lifetimes : Lfts 1
+  pub given : Dens lifetimes hole-kinds.ps
+  pub after : AtExit (endedOf 1 hole-kinds.ps hole-kinds.r) lifetimes
+  pub table-is : given .0 .now ≡ table
+  pub n-is : given .1 .0 ≡ n
+  pub line-is : given .1 .1 .0 ≡ line
+  pub promised : hole-reads.Post lifetimes given answer after
 
 -- write(table, n, text)
 pub record WriteCall (table : List ℤ) (n : ℕ) (text : List ℕ) (answer : Answer) (left : List ℕ) : Type 0 where
