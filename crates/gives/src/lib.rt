@@ -1,5 +1,6 @@
 // What a command gives to those who ask: the hole that it makes, and the diameter that it declares for a tool.
 ghost use mathlib.Core.Path.{_≡_};
+ghost use Rattle.rules.specs.Answers.{holeSaid};
 ghost use Rattle.rules.specs.Asking as Asking;
 ghost use Rattle.rules.specs.Holes as Holes;
 use points::Point;
@@ -24,7 +25,7 @@ fn made(kind: u32, tool: u32, start: Point, end: Point, radius: u32) -> HoleAnsw
 
 /// The hole that a command makes, given the point before it and the state after it.
 pub fn hole(command: Command, from: Point, state: State) -> HoleAnswer
-    ensures { λ r. ⌜ r ≡ Holes.holeOf from command state ⌝ }
+    ensures { λ r. ⌜ holeSaid r ≡ holeSaid (Holes.holeOf from command state) ⌝ }
 {
     let tool = state.tool;
     match command {

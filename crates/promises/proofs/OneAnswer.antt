@@ -154,7 +154,7 @@ pub state-same : OneAnswer 0 state-same-kinds.ps state-same-kinds.r state-same-r
 state-same κs a x y e f p q = same p q
 
 pub gives-hole : OneAnswer 0 gives-hole-kinds.ps gives-hole-kinds.r gives-hole-reads.Post
-gives-hole κs a x y e f p q = same p q
+gives-hole κs a x y e f p q = hole-said-one (same p q)
 
 pub gives-diameter : OneAnswer 0 gives-diameter-kinds.ps gives-diameter-kinds.r gives-diameter-reads.Post
 gives-diameter κs a x y e f p q = same p q

@@ -1,5 +1,5 @@
 -- Each test that fails is a refusal; past them all the two rows looked at make the hole.
-use mathlib.Core.Path.{_≡_, sym, ap, _∙_}
+use mathlib.Core.Path.{_≡_, sym, _∙_}
 use mathlib.Core.Bool.{Bool, false, not}
 use mathlib.Core.List.{List}
 use Prim.Native.Nat.{ℕ, _-_}
@@ -61,7 +61,7 @@ returns-4 c =
 returns-5 : tie.Need-returns-5
 returns-5 c =
     let e = c .before .before .before .before .before .before .before .before .before .before in
-    ap holeSaid (c .hole .ensures)
+    c .hole .ensures
     ∙ sym (rows-tell _ _ _ (e .before .before .before .sizes-fit .ensures) (e .before .before .if1 .left) (e .before .is-line .ensures) (e .if2 .left)
     ∙ rw (
       sym (c .before .before .before .before .before .before .before .before .before .state-before .ensures)
