@@ -3,14 +3,14 @@
 use mathlib.Core.Path.{_≡_, refl, sym, ap, _∙_, subst, subst₂}
 use mathlib.Core.Bool.{Bool, true, false, false≢true}
 use mathlib.Core.List.{List, [], _∷_, _++_}
-use Prim.Native.Nat.{ℕ, _+_, _-_, _≤_}
+use Prim.Native.Nat.{ℕ, _+_, _-_}
 use native.Mathlib.Omega.{arith}
 use borrow.Author.Tests.{eq-eqb, ne-eqb, eqb-true, eqb-false}
 use lib.IntN.{ℤ}
-use lib.ListN.{length, drop, length-drop}
+use lib.ListN.{length, length-drop}
 use Rattle.lists.proofs.Choice.{cond-all}
 use Rattle.runs.specs.Machine.{Out, yields, stops, onOut, Verdict, accepted, refused, Row, Entry, holds, bad, allHold, Span, lastOf, StepBy}
-use Rattle.runs.specs.Agreement.{Unmet, nothing, further}
+use Rattle.runs.specs.Agreement.{Unmet}
 use Rattle.runs.proofs.Unmet.{unmet-map, unmet-length, Halts, Ends, halted, met, past, rerun-iff}
 use Rattle.runs.proofs.Unmet as U
 use Rattle.runs.proofs.Hold.{hold-length}
@@ -23,7 +23,7 @@ use Rattle.rules.specs.declared.Answer.the-variants.{Done, Refused}
 use Rattle.rules.specs.Refusals.{endsTooSoon, noSuchLine, holdsLineEnd, badTable}
 use Rattle.rules.specs.Commands.{lineOf}
 use Rattle.rules.specs.State.{over, taken, hasEnded, sameState}
-use Rattle.rules.specs.Rows.{entriesOf, sizesFit, Sizes}
+use Rattle.rules.specs.Rows.{entriesOf, sizesFit}
 use Rattle.rules.specs.Reading.{sayOut, Rows}
 use Rattle.rules.specs.Editing.{isLine, noLineEnd, stateIn, beforeLine, onBefore, rerunFrom, editFrom, editRows, editOf, meetingOf, editAnswer}
 use Rattle.rules.specs.Spelling.{SpellsLine}
@@ -32,7 +32,6 @@ use Rattle.rules.proofs.Same.{same-state-iff}
 use Rattle.laws.proofs.Sizes.{line-is, sizes-fit, sizes-say, bad-sizes, sizes-bad}
 use Rattle.laws.proofs.Lines.{new-no-lf, new-no-cr, no-line-end}
 use Rattle.laws.proofs.Entries.{entries-length}
-use Rattle.obeys.specs.Faults.{LineRefused}
 use Rattle.obeys.proofs.Lines.{LineSays, line-sound, line-says}
 use Rattle.obeys.proofs.Files.{taken-takes, takes-taken, taken-refused, refused-taken}
 use Rattle.demands.specs.HoleRefused.{LineOfTable, rowAt, StateBefore}

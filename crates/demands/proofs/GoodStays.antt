@@ -11,19 +11,17 @@ use Rattle.lists.specs.Put.{putAt}
 use Rattle.runs.specs.Machine.{accepted, Row, allHold, Span, lastOf, Follows, StepBy}
 use Rattle.rules.specs.declared.Command.{Command}
 use Rattle.rules.specs.declared.State.{State}
-use Rattle.rules.specs.declared.Answer.the-variants.{Done}
 use Rattle.rules.specs.Numbers.{maxLines}
 use Rattle.rules.specs.State.{start, taken, hasEnded}
 use Rattle.rules.specs.Rows.{rowWidth, tableNumbers, Good}
 use Rattle.rules.specs.Reading.{Rows}
-use Rattle.rules.specs.Editing.{noLineEnd, editRows, editOf, editAnswer, editLeaves}
+use Rattle.rules.specs.Editing.{noLineEnd, editRows, editOf, editLeaves}
 use Rattle.laws.proofs.Keeps.{start-ok}
 use Rattle.laws.proofs.Sizes.{line-says}
 use Rattle.laws.proofs.InRange.{RowsOk, rows-append, rows-first, rows-rest, rows-take, rows-drop, last-ok, said-ok, redone-ok}
 use Rattle.answers.proofs.Places.{around-line}
 use Rattle.answers.proofs.GoodTables.{rows-table, good-whole}
 use Rattle.answers.proofs.EditSpan.{edit-tests, edit-done}
-use Rattle.demands.specs.GoodTable.{GoodTable}
 use Rattle.demands.specs.GoodStays.{GoodStays}
 use Rattle.demands.proofs.EditRows.{edit-made, edit-follows}
 use Rattle.demands.proofs.EditTable.{edit-writes, new-length}

@@ -1,5 +1,5 @@
 -- The hole query's refusals: each test in turn is passed or gives its refusal.
-use mathlib.Core.Path.{_≡_, refl, sym, ap, _∙_, subst}
+use mathlib.Core.Path.{_≡_, refl, sym, _∙_, subst}
 use mathlib.Core.Bool.{Bool, true, false, false≢true}
 use mathlib.Core.List.{List}
 use Prim.Native.Nat.{ℕ, _-_, _<_, _≤_}
@@ -20,7 +20,7 @@ use Rattle.rules.specs.Refusals.{noSuchLine, badTable}
 use Rattle.rules.specs.State.{start}
 use Rattle.rules.specs.Rows.{entriesOf, sizesFit, Sizes}
 use Rattle.rules.specs.Holes.{holeOf}
-use Rattle.rules.specs.Editing.{isLine, entryAt, stateIn, beforeLine, onBefore}
+use Rattle.rules.specs.Editing.{isLine, stateIn, beforeLine, onBefore}
 use Rattle.rules.specs.Asking.{onRow, holeIn, holeAnswer}
 use Rattle.laws.proofs.Sizes.{line-says, line-is, sizes-fit, sizes-say, bad-sizes, sizes-bad}
 use Rattle.laws.proofs.Ways.{hole-all}

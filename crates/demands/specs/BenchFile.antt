@@ -1,7 +1,6 @@
--- Document 01's cases, computed on the definitions: the bench file is accepted, printed and written as given, and its edits a to l are
--- answered as given, as one table; after f both routs are tool 1's.
+-- Document 01's cases, computed on the definitions: the bench file is accepted, printed and written as given, and its edits
+-- a to l are answered as given, as one table; after f both routs are tool 1's.
 use mathlib.Core.Path.{_≡_}
-use mathlib.Core.List.{List}
 use Prim.Native.Nat.{ℕ, _*_}
 use lib.IntN.{pos}
 use Rattle.lists.specs.Words.{bytes}

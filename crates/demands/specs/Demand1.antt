@@ -47,22 +47,26 @@ writeRefusals = 18 ∷ 15 ∷ []
 
 -- a file's bytes bs read into lent numbers t
 pub record ReadLeavesRest (bs : List ℕ) (t : List ℤ) : Type 0 where
-  pub refused : (e : Refusal) (i : ℕ) → readAnswer bs t ≡ Refused e i → (readLeaves bs t ≡ t) × (among readRefusals (e .number) ≡ true) × (i ≤ maxLines + 1)
+  pub refused : (e : Refusal) (i : ℕ) → readAnswer bs t ≡ Refused e i
+      → (readLeaves bs t ≡ t) × (among readRefusals (e .number) ≡ true) × (i ≤ maxLines + 1)
   pub inside : (n : ℕ) → readAnswer bs t ≡ Done n → (n ≤ maxLines) × (rowWidth * n ≤ length t)
   pub beyond : (n : ℕ) → readAnswer bs t ≡ Done n → drop (rowWidth * n) (readLeaves bs t) ≡ drop (rowWidth * n) t
   pub as-many : length (readLeaves bs t) ≡ length t
 
 -- line k of a table of n rows in lent numbers t gets the text l
 pub record EditLeavesRest (t : List ℤ) (n k : ℕ) (l : List ℕ) : Type 0 where
-  pub refused : (e : Refusal) (i : ℕ) → editAnswer t n k l ≡ Refused e i → (editLeaves t n k l ≡ t) × (among editRefusals (e .number) ≡ true) × OnLine (n + 1) (maxLines + 1) i
+  pub refused : (e : Refusal) (i : ℕ) → editAnswer t n k l ≡ Refused e i
+      → (editLeaves t n k l ≡ t) × (among editRefusals (e .number) ≡ true) × OnLine (n + 1) (maxLines + 1) i
   pub inside : (m : ℕ) → editAnswer t n k l ≡ Done m → (1 ≤ k) × (k ≤ m) × (m ≤ n) × (n ≤ maxLines) × (rowWidth * n ≤ length t)
-  pub before : (m : ℕ) → editAnswer t n k l ≡ Done m → take (rowWidth * (k - 1)) (editLeaves t n k l) ≡ take (rowWidth * (k - 1)) t
+  pub before : (m : ℕ) → editAnswer t n k l ≡ Done m
+      → take (rowWidth * (k - 1)) (editLeaves t n k l) ≡ take (rowWidth * (k - 1)) t
   pub after : (m : ℕ) → editAnswer t n k l ≡ Done m → drop (rowWidth * m) (editLeaves t n k l) ≡ drop (rowWidth * m) t
   pub as-many : length (editLeaves t n k l) ≡ length t
 
 -- a table of n rows in numbers t written into lent bytes b
 pub record WriteLeavesRest (t : List ℤ) (n : ℕ) (b : List ℕ) : Type 0 where
-  pub refused : (e : Refusal) (i : ℕ) → writeAnswer t n b ≡ Refused e i → (writeLeaves t n b ≡ b) × (among writeRefusals (e .number) ≡ true) × OnLine n maxLines i
+  pub refused : (e : Refusal) (i : ℕ) → writeAnswer t n b ≡ Refused e i
+      → (writeLeaves t n b ≡ b) × (among writeRefusals (e .number) ≡ true) × OnLine n maxLines i
   pub inside : (m : ℕ) → writeAnswer t n b ≡ Done m → (m ≤ length b) × (m ≤ longestLine * n) × (n ≤ maxLines)
   pub beyond : (m : ℕ) → writeAnswer t n b ≡ Done m → drop m (writeLeaves t n b) ≡ drop m b
   pub as-many : length (writeLeaves t n b) ≡ length b
@@ -71,5 +75,7 @@ pub record Demand1 : Type 0 where
   pub read : (bs : List ℕ) (t : List ℤ) → ReadLeavesRest bs t
   pub edit : (t : List ℤ) (n k : ℕ) (l : List ℕ) → EditLeavesRest t n k l
   pub write : (t : List ℤ) (n : ℕ) (b : List ℕ) → WriteLeavesRest t n b
-  pub hole : (t : List ℤ) (n k : ℕ) (e : Refusal) (i : ℕ) → holeAnswer t n k ≡ H.Refused e i → (among holeRefusals (e .number) ≡ true) × OnLine n maxLines i
-  pub diameter : (t : List ℤ) (n tool : ℕ) (e : Refusal) (i : ℕ) → diameterAnswer t n tool ≡ D.Refused e i → (among diameterRefusals (e .number) ≡ true) × OnLine n maxLines i
+  pub hole : (t : List ℤ) (n k : ℕ) (e : Refusal) (i : ℕ) → holeAnswer t n k ≡ H.Refused e i
+      → (among holeRefusals (e .number) ≡ true) × OnLine n maxLines i
+  pub diameter : (t : List ℤ) (n tool : ℕ) (e : Refusal) (i : ℕ) → diameterAnswer t n tool ≡ D.Refused e i
+      → (among diameterRefusals (e .number) ≡ true) × OnLine n maxLines i

@@ -7,6 +7,7 @@ use Prim.Native.Nat.{ℕ, _*_, _<_, _≤_}
 use lib.IntN.{ℤ}
 use lib.ListN.{length}
 use Rattle.lists.specs.Put.{putAt}
+use Rattle.lists.specs.Exactly.{Exactly}
 use Rattle.runs.specs.Machine.{allHold}
 use Rattle.rules.specs.declared.Refusal.{Refusal}
 use Rattle.rules.specs.declared.Answer.the-variants.{Done, Refused}
@@ -43,7 +44,7 @@ pub record ReadsRight (bs : List ℕ) (t : List ℤ) : Type 0 where
   pub one-reading : (rs ss : Rows) → ReadingOf bs rs → ReadingOf bs ss → rs ≡ ss
   pub holds : (n : ℕ) (rs : Rows) → readAnswer bs t ≡ Done n → ReadingOf bs rs → HoldsReading bs t n rs
   -- refused exactly so; 15 is no file's fault
-  pub refused : (e : Refusal) (i : ℕ) → (readAnswer bs t ≡ Refused e i → ReadRefused bs t e i) × (ReadRefused bs t e i → readAnswer bs t ≡ Refused e i)
+  pub refused : (e : Refusal) (i : ℕ) → Exactly (readAnswer bs t ≡ Refused e i) (ReadRefused bs t e i)
   pub no-room-last : (i : ℕ) → Faulty bs noRoom i → ⊥
 
 pub record Demand2 : Type 0 where

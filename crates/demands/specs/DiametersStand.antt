@@ -46,10 +46,12 @@ pub record DiametersOf (t : List ℤ) (n : ℕ) (rs : Rows) : Type 0 where
 
 -- line k of a file read into t gets the text l: each answer, of each line and each tool, is that of the edited file read afresh
 pub record AnswersAfresh (bs : List ℕ) (t : List ℤ) (n k : ℕ) (w : LineOf bs k) (l : List ℕ) : Type 0 where
-  pub diameter : (tool : ℕ) → diameterAnswer (editLeaves (readLeaves bs t) n k l) n tool ≡ diameterAnswer (readLeaves (edited w l) (readLeaves bs t)) n tool
-  pub hole : (j : ℕ) → holeAnswer (editLeaves (readLeaves bs t) n k l) n j ≡ holeAnswer (readLeaves (edited w l) (readLeaves bs t)) n j
+  pub diameter : (tool : ℕ)
+      → diameterAnswer (editLeaves (readLeaves bs t) n k l) n tool ≡ diameterAnswer (readLeaves (edited w l) (readLeaves bs t)) n tool
+  pub hole : (j : ℕ)
+      → holeAnswer (editLeaves (readLeaves bs t) n k l) n j ≡ holeAnswer (readLeaves (edited w l) (readLeaves bs t)) n j
 
 pub record DiametersStand : Type 0 where
   pub good : (t : List ℤ) (n : ℕ) (rs : Rows) → Good t n rs → DiametersOf t n rs
-  pub afresh : (bs : List ℕ) (t : List ℤ) (n : ℕ) → readAnswer bs t ≡ Done n → (k : ℕ) (w : LineOf bs k) (l : List ℕ) → noLineEnd l ≡ true
-      → length (edited w l) ≤ maxFile → AnswersAfresh bs t n k w l
+  pub afresh : (bs : List ℕ) (t : List ℤ) (n : ℕ) → readAnswer bs t ≡ Done n → (k : ℕ) (w : LineOf bs k) (l : List ℕ)
+      → noLineEnd l ≡ true → length (edited w l) ≤ maxFile → AnswersAfresh bs t n k w l

@@ -4,6 +4,7 @@ use mathlib.Core.List.{List, [], _∷_, _++_}
 use Prim.Native.Nat.{ℕ, _+_, _-_, _<_}
 use lib.IntN.{ℤ}
 use lib.ListN.{length, drop}
+use Rattle.lists.specs.Exactly.{Exactly}
 use Rattle.runs.specs.Machine.{Row, Entry, holds, bad, allHold, lastOf}
 use Rattle.runs.specs.Agreement.{Unmet}
 use Rattle.rules.specs.declared.Command.{Command}
@@ -26,8 +27,8 @@ pub record NoLineEnd (l : List ℕ) : Type 0 where
   pub no-lf : NoByte LF l
   pub no-cr : NoByte CR l
 
--- line k may get the text l: the tests up to 17 are passed, and so are those of the row before, which leaves the state p, and of
--- the old row
+-- line k may get the text l: the tests up to 17 are passed, and so are those of the row before, which leaves the state p,
+-- and of the old row
 pub record Edits (t : List ℤ) (n k : ℕ) (l : List ℕ) (p : State) (old : Row Command State) : Type 0 where
   pub line : LineOfTable t n k
   pub no-end : NoLineEnd l
@@ -38,11 +39,12 @@ pub record Edits (t : List ℤ) (n k : ℕ) (l : List ℕ) (p : State) (old : Ro
 abbrev pub rowsFrom : List ℤ → ℕ → ℕ → Command → Row Command State → List (Entry Command State)
 rowsFrom t n k c old = holds (record { command = c; state = old .state }) ∷ drop k (entriesOf n t)
 
--- what stops the edit in state s, at the first of the rows left: it fails its test; or its command may not come; or there is none,
--- and the run has not ended
+-- what stops the edit in state s, at the first of the rows left: it fails its test; or its command may not come; or there is
+-- none, and the run has not ended
 pub data Stops (s : State) : List (Entry Command State) → Refusal → Type 0 where
   bad-row : {es : List (Entry Command State)} → Stops s (bad ∷ es) badTable
-  untaken : {r : Row Command State} {es : List (Entry Command State)} {e : Refusal} → Untaken s (r .command) e → Stops s (holds r ∷ es) e
+  untaken : {r : Row Command State} {es : List (Entry Command State)} {e : Refusal}
+      → Untaken s (r .command) e → Stops s (holds r ∷ es) e
   too-soon : (s .phase ≡ over → ⊥) → Stops s [] endsTooSoon
 
 -- why line k does not get the text l, and the line
@@ -51,25 +53,29 @@ pub data EditRefused (t : List ℤ) (n k : ℕ) (l : List ℕ) : Refusal → ℕ
   no-line : Sizes t n → (LineOfTable t n k → ⊥) → EditRefused t n k l noSuchLine 0
   line-end : LineOfTable t n k → (NoLineEnd l → ⊥) → EditRefused t n k l holdsLineEnd 0
   row-before : LineOfTable t n k → NoLineEnd l → 1 < k → rowAt t n (k - 1) ≡ bad → EditRefused t n k l badTable (k - 1)
-  row-itself : {p : State} → LineOfTable t n k → NoLineEnd l → StateBefore t n k p → rowAt t n k ≡ bad → EditRefused t n k l badTable k
+  row-itself : {p : State} → LineOfTable t n k → NoLineEnd l → StateBefore t n k p → rowAt t n k ≡ bad
+      → EditRefused t n k l badTable k
   -- the new line, from 6 on
   new-line : {p : State} {old : Row Command State} {e : Refusal} → Edits t n k l p old → LineRefused l e → EditRefused t n k l e k
   -- the new command, and the rows up to the meeting line: some are taken again without agreement, and the next one stops it
   rows : {p : State} {old : Row Command State} {c : Command} {past new : Rows} {left : List (Entry Command State)} {e : Refusal}
-      → Edits t n k l p old → SpellsLine l c → rowsFrom t n k c old ≡ allHold past ++ left → Unmet Takes p past new → Stops (lastOf p new) left e
+      → Edits t n k l p old → SpellsLine l c → rowsFrom t n k c old ≡ allHold past ++ left
+      → Unmet Takes p past new → Stops (lastOf p new) left e
       → EditRefused t n k l e (k + length new)
 
--- line k gets the text l, and m is the meeting line: from line k on some rows are taken again without agreement, and at the next one
--- old and new states agree; or there is none, and the run has ended
+-- line k gets the text l, and m is the meeting line: from line k on some rows are taken again without agreement, and at the
+-- next one old and new states agree; or there is none, and the run has ended
 pub data Meets (t : List ℤ) (n k : ℕ) (l : List ℕ) : ℕ → Type 0 where
-  agree : {p : State} {old : Row Command State} {c : Command} {past new : Rows} {r : Row Command State} (left : List (Entry Command State))
-      → Edits t n k l p old → SpellsLine l c → rowsFrom t n k c old ≡ allHold past ++ (holds r ∷ left) → Unmet Takes p past new
+  agree : {p : State} {old : Row Command State} {c : Command} {past new : Rows} {r : Row Command State}
+      (left : List (Entry Command State)) → Edits t n k l p old → SpellsLine l c
+      → rowsFrom t n k c old ≡ allHold past ++ (holds r ∷ left) → Unmet Takes p past new
       → Takes (lastOf p new) (r .command) (r .state) → Meets t n k l (k + length new)
   last : {p : State} {old : Row Command State} {c : Command} {past new : Rows}
-      → Edits t n k l p old → SpellsLine l c → rowsFrom t n k c old ≡ allHold past → Unmet Takes p past new → lastOf p new .phase ≡ over → Meets t n k l n
+      → Edits t n k l p old → SpellsLine l c → rowsFrom t n k c old ≡ allHold past
+      → Unmet Takes p past new → lastOf p new .phase ≡ over → Meets t n k l n
 
 pub record EditRefusedExactly : Type 0 where
   pub refused : (t : List ℤ) (n k : ℕ) (l : List ℕ) (e : Refusal) (i : ℕ)
-      → (editAnswer t n k l ≡ Refused e i → EditRefused t n k l e i) × (EditRefused t n k l e i → editAnswer t n k l ≡ Refused e i)
+      → Exactly (editAnswer t n k l ≡ Refused e i) (EditRefused t n k l e i)
   pub done : (t : List ℤ) (n k : ℕ) (l : List ℕ) (m : ℕ)
-      → (editAnswer t n k l ≡ Done m → Meets t n k l m) × (Meets t n k l m → editAnswer t n k l ≡ Done m)
+      → Exactly (editAnswer t n k l ≡ Done m) (Meets t n k l m)

@@ -3,6 +3,7 @@ use mathlib.Core.Path.{_≡_}
 use mathlib.Core.List.{List}
 use Prim.Native.Nat.{ℕ, _-_, _<_, _≤_}
 use lib.IntN.{ℤ}
+use Rattle.lists.specs.Exactly.{Exactly}
 use Rattle.runs.specs.Machine.{Row, Entry, holds, bad}
 use Rattle.rules.specs.declared.Command.{Command}
 use Rattle.rules.specs.declared.State.{State}
@@ -39,7 +40,8 @@ pub data HoleRefused (t : List ℤ) (n k : ℕ) : Refusal → ℕ → Type 0 whe
 
 pub record HoleRefusedExactly : Type 0 where
   pub refused : (t : List ℤ) (n k : ℕ) (e : Refusal) (i : ℕ)
-      → (holeAnswer t n k ≡ Refused e i → HoleRefused t n k e i) × (HoleRefused t n k e i → holeAnswer t n k ≡ Refused e i)
+      → Exactly (holeAnswer t n k ≡ Refused e i) (HoleRefused t n k e i)
   -- else it is the hole, or that there is none
-  pub answered : (t : List ℤ) (n k : ℕ) (p : State) (r : Row Command State) → LineOfTable t n k → StateBefore t n k p → rowAt t n k ≡ holds r
+  pub answered : (t : List ℤ) (n k : ℕ) (p : State) (r : Row Command State)
+      → LineOfTable t n k → StateBefore t n k p → rowAt t n k ≡ holds r
       → holeAnswer t n k ≡ holeOf (p .at) (r .command) (r .state)

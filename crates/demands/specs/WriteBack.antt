@@ -31,7 +31,8 @@ pub record ReadsBack (rs : Rows) (u : List ℤ) : Type 0 where
   pub answer : readAnswer (textOfRows rs) u ≡ Done (length (withoutComments rs))
   pub table : readLeaves (textOfRows rs) u ≡ putAt u 0 (tableNumbers (withoutComments rs))
   pub good : Good (readLeaves (textOfRows rs) u) (length (withoutComments rs)) (withoutComments rs)
-  pub same-bytes : (b : List ℕ) → length (textOfRows rs) ≤ length b → Writes (readLeaves (textOfRows rs) u) (length (withoutComments rs)) (textOfRows rs) b
+  pub same-bytes : (b : List ℕ) → length (textOfRows rs) ≤ length b
+      → Writes (readLeaves (textOfRows rs) u) (length (withoutComments rs)) (textOfRows rs) b
 
 pub record WritesBack (t : List ℤ) (n : ℕ) (rs : Rows) : Type 0 where
   pub writes : (b : List ℕ) → length (textOfRows rs) ≤ length b → Writes t n (textOfRows rs) b

@@ -6,6 +6,7 @@ use mathlib.Core.List.{List, _∷_, _++_}
 use Prim.Native.Nat.{ℕ, _+_, _<_, _≤_}
 use lib.IntN.{ℤ}
 use lib.ListN.{length}
+use Rattle.lists.specs.Exactly.{Exactly}
 use Rattle.runs.specs.Machine.{yields, Entry, holds, bad, allHold, lastOf, Follows, StepBy}
 use Rattle.rules.specs.declared.Command.{Command}
 use Rattle.rules.specs.declared.State.{State}
@@ -27,7 +28,8 @@ Unfit p (holds r) = taken p (r .command) ≡ yields (r .state) → ⊥
 pub data NotTable (p : State) (i : ℕ) : List (Entry Command State) → ℕ → Type 0 where
   unfit : (rs : Rows) (e : Entry Command State) (es : List (Entry Command State)) {j : ℕ}
       → Follows (StepBy taken) p i rs → Unfit (lastOf p rs) e → i + length rs + 1 ≡ j → NotTable p i (allHold rs ++ (e ∷ es)) j
-  unended : (rs : Rows) {j : ℕ} → Follows (StepBy taken) p i rs → hasEnded (lastOf p rs) ≡ false → i + length rs ≡ j → NotTable p i (allHold rs) j
+  unended : (rs : Rows) {j : ℕ} → Follows (StepBy taken) p i rs → hasEnded (lastOf p rs) ≡ false → i + length rs ≡ j
+      → NotTable p i (allHold rs) j
 
 -- why a table is not written, and the line
 pub data WriteRefused (t : List ℤ) (n : ℕ) (b : List ℕ) : Refusal → ℕ → Type 0 where
@@ -43,8 +45,8 @@ pub record IsWritten (t : List ℤ) (n : ℕ) (b : List ℕ) (m : ℕ) : Type 0 
   pub room : m ≤ length b
 
 pub record WritesExactly (t : List ℤ) (n : ℕ) (b : List ℕ) : Type 0 where
-  pub done : (m : ℕ) → (writeAnswer t n b ≡ Done m → IsWritten t n b m) × (IsWritten t n b m → writeAnswer t n b ≡ Done m)
-  pub refused : (e : Refusal) (i : ℕ) → (writeAnswer t n b ≡ Refused e i → WriteRefused t n b e i) × (WriteRefused t n b e i → writeAnswer t n b ≡ Refused e i)
+  pub done : (m : ℕ) → Exactly (writeAnswer t n b ≡ Done m) (IsWritten t n b m)
+  pub refused : (e : Refusal) (i : ℕ) → Exactly (writeAnswer t n b ≡ Refused e i) (WriteRefused t n b e i)
   -- 18 exactly where the table isn't good
   pub not-good : ((rs : Rows) → Good t n rs → ⊥) → (i : ℕ) × (writeAnswer t n b ≡ Refused badTable i)
   pub not-bad : (rs : Rows) → Good t n rs → (i : ℕ) → writeAnswer t n b ≡ Refused badTable i → ⊥

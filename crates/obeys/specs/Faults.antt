@@ -79,21 +79,24 @@ pub data LineRefused (l : List ℕ) : Refusal → Type 0 where
   too-long : maxLine < length l → LineRefused l lineTooLong
   forbidden : length l ≤ maxLine → (Printable l → ⊥) → LineRefused l forbiddenByte
   no-form : length l ≤ maxLine → Printable l → ((f : Form) → Spells l f → ⊥) → LineRefused l noSuchForm
-  no-command : {f : Form} → length l ≤ maxLine → Printable l → Spells l f → ((c : Command) → Means f c → ⊥) → LineRefused l outOfRange
+  no-command : {f : Form} → length l ≤ maxLine → Printable l → Spells l f → ((c : Command) → Means f c → ⊥)
+      → LineRefused l outOfRange
 
 -- ---- a file that is refused
 
--- at line i the bytes bs are left, in state p: there is no line, and the run has not ended; or there is one too many; or it isn't
--- ended; or it is no command; or it is one that may not come
+-- at line i the bytes bs are left, in state p: there is no line, and the run has not ended; or there is one too many; or it
+-- isn't ended; or it is no command; or it is one that may not come
 pub data Fault (i : ℕ) (p : State) (bs : List ℕ) : Refusal → Type 0 where
   missing : bs ≡ [] → (p .phase ≡ over → ⊥) → Fault i p bs endsTooSoon
   too-many : (bs ≡ [] → ⊥) → maxLines < i → Fault i p bs tooManyLines
   not-ended : (bs ≡ [] → ⊥) → i ≤ maxLines → NoLF bs → Fault i p bs lineNotEnded
   unread : {l rest : List ℕ} {e : Refusal} → i ≤ maxLines → FirstLine bs l rest → LineRefused l e → Fault i p bs e
-  untaken : {l rest : List ℕ} {c : Command} {e : Refusal} → i ≤ maxLines → FirstLine bs l rest → SpellsLine l c → Untaken p c e → Fault i p bs e
+  untaken : {l rest : List ℕ} {c : Command} {e : Refusal} → i ≤ maxLines → FirstLine bs l rest → SpellsLine l c → Untaken p c e
+      → Fault i p bs e
 
 -- a file is too large; or its first lines are as those of a file that obeys, and the line after them is at fault
 pub data Faulty (bs : List ℕ) : Refusal → ℕ → Type 0 where
   too-large : maxFile < length bs → Faulty bs fileTooLong 0
   at-line : {head left : List ℕ} {rs : Rows} {e : Refusal} → length bs ≤ maxFile → bs ≡ head ++ left → length rs ≤ maxLines
-      → SpellsFile head (commandsOf rs) → Follows Takes start 0 rs → Fault (length rs + 1) (lastOf start rs) left e → Faulty bs e (length rs + 1)
+      → SpellsFile head (commandsOf rs) → Follows Takes start 0 rs → Fault (length rs + 1) (lastOf start rs) left e
+      → Faulty bs e (length rs + 1)

@@ -1,14 +1,14 @@
 -- The demands, of calls: a contract says that the answer, and what is left, is what the definition says.
-use mathlib.Core.Path.{_≡_, refl, sym, ap, _∙_, subst, subst₂}
+use mathlib.Core.Path.{_≡_, sym, ap, _∙_, subst, subst₂}
 use mathlib.Core.Bool.{true}
 use mathlib.Core.List.{List}
 use Prim.Native.Nat.{ℕ, _*_, _≤_}
 use lib.IntN.{ℤ}
 use lib.ListN.{length, take}
 use Rattle.lists.specs.Put.{putAt}
-use Rattle.rules.specs.declared.Refusal.{Refusal}
+use Rattle.lists.specs.Exactly.{Exactly}
 use Rattle.rules.specs.declared.Answer.{Answer}
-use Rattle.rules.specs.declared.Answer.the-variants.{Done, Refused}
+use Rattle.rules.specs.declared.Answer.the-variants.{Done}
 use Rattle.rules.specs.declared.HoleAnswer.{HoleAnswer}
 use Rattle.rules.specs.Numbers.{maxFile}
 use Rattle.rules.specs.Rows.{rowWidth, tableNumbers, Good}
@@ -56,7 +56,7 @@ write-says c = (
 )
 
 -- what holds exactly of an answer holds exactly of any that equals it
-exactly : {A : Type 0} {P : Type 0} {a b x : A} → a ≡ b → (b ≡ x → P) × (P → b ≡ x) → (a ≡ x → P) × (P → a ≡ x)
+exactly : {A : Type 0} {P : Type 0} {a b x : A} → a ≡ b → Exactly (b ≡ x) P → Exactly (a ≡ x) P
 exactly e w = (λ h. w .0 (sym e ∙ h), λ p. e ∙ w .1 p)
 
 -- ---- reading

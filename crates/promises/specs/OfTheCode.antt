@@ -1,5 +1,5 @@
--- The demands once more, of the code: of calls as the functions' contracts allow them. A call of `read` is handed a file and lent a
--- table, and so on (Calls); its answer and what it leaves are whatever the contract allows.
+-- The demands once more, of the code: of calls as the functions' contracts allow them. A call of `read` is handed a file and
+-- lent a table, and so on (Calls); its answer and what it leaves are whatever the contract allows.
 use mathlib.Core.Path.{_≡_}
 use mathlib.Core.Bool.{true}
 use mathlib.Core.List.{List}
@@ -7,6 +7,7 @@ use Prim.Native.Nat.{ℕ, _*_, _≤_}
 use lib.IntN.{ℤ}
 use lib.ListN.{length, take}
 use Rattle.lists.specs.Put.{putAt}
+use Rattle.lists.specs.Exactly.{Exactly}
 use Rattle.rules.specs.declared.Refusal.{Refusal}
 use Rattle.rules.specs.declared.Answer.{Answer}
 use Rattle.rules.specs.declared.Answer.the-variants.{Done, Refused}
@@ -35,24 +36,28 @@ pub record ReadsFile (file : List ℕ) (table : List ℤ) (answer : Answer) (lef
   pub obeys : (n : ℕ) → answer ≡ Done n → Obeys file
   pub accepted : (rs : Rows) → ReadingOf file rs → rowWidth * length rs ≤ length table
       → (answer ≡ Done (length rs)) × (left ≡ putAt table 0 (tableNumbers rs)) × Good left (length rs) rs
-  pub refused-exactly : (e : Refusal) (i : ℕ) → (answer ≡ Refused e i → ReadRefused file table e i) × (ReadRefused file table e i → answer ≡ Refused e i)
+  pub refused-exactly : (e : Refusal) (i : ℕ) → Exactly (answer ≡ Refused e i) (ReadRefused file table e i)
   -- each line's hole, asked for afterwards
-  pub holes : (n : ℕ) (rs : Rows) → answer ≡ Done n → ReadingOf file rs → (k : ℕ) → 1 ≤ k → k ≤ n → (hole : HoleAnswer) → HoleCall left n k hole
+  pub holes : (n : ℕ) (rs : Rows) → answer ≡ Done n → ReadingOf file rs → (k : ℕ) → 1 ≤ k → k ≤ n
+      → (hole : HoleAnswer) → HoleCall left n k hole
       → hole ≡ holeOf (stateBefore rs k .at) (rowOf rs k .command) (rowOf rs k .state)
 
 pub record OfTheCode : Type 0 where
-  pub read : (file : List ℕ) (table : List ℤ) (answer : Answer) (left : List ℤ) → ReadCall file table answer left → ReadsFile file table answer left
+  pub read : (file : List ℕ) (table : List ℤ) (answer : Answer) (left : List ℤ) → ReadCall file table answer left
+      → ReadsFile file table answer left
   -- demand 1: a refused call leaves what was lent as it was; each refusal is given exactly when
   pub refused-edit : (table : List ℤ) (n line : ℕ) (text : List ℕ) (e : Refusal) (i : ℕ) (left : List ℤ)
       → EditCall table n line text (Refused e i) left → left ≡ table
   pub refused-write : (table : List ℤ) (n : ℕ) (block : List ℕ) (e : Refusal) (i : ℕ) (left : List ℕ)
       → WriteCall table n block (Refused e i) left → left ≡ block
-  pub edit-exactly : (table : List ℤ) (n line : ℕ) (text : List ℕ) (answer : Answer) (left : List ℤ) → EditCall table n line text answer left
-      → (e : Refusal) (i : ℕ) → (answer ≡ Refused e i → EditRefused table n line text e i) × (EditRefused table n line text e i → answer ≡ Refused e i)
+  pub edit-exactly : (table : List ℤ) (n line : ℕ) (text : List ℕ) (answer : Answer) (left : List ℤ)
+      → EditCall table n line text answer left
+      → (e : Refusal) (i : ℕ) → Exactly (answer ≡ Refused e i) (EditRefused table n line text e i)
   pub hole-exactly : (table : List ℤ) (n line : ℕ) (answer : HoleAnswer) → HoleCall table n line answer
-      → (e : Refusal) (i : ℕ) → (answer ≡ H.Refused e i → HoleRefused table n line e i) × (HoleRefused table n line e i → answer ≡ H.Refused e i)
-  pub write-exactly : (table : List ℤ) (n : ℕ) (block : List ℕ) (answer : Answer) (left : List ℕ) → WriteCall table n block answer left
-      → (e : Refusal) (i : ℕ) → (answer ≡ Refused e i → WriteRefused table n block e i) × (WriteRefused table n block e i → answer ≡ Refused e i)
+      → (e : Refusal) (i : ℕ) → Exactly (answer ≡ H.Refused e i) (HoleRefused table n line e i)
+  pub write-exactly : (table : List ℤ) (n : ℕ) (block : List ℕ) (answer : Answer) (left : List ℕ)
+      → WriteCall table n block answer left
+      → (e : Refusal) (i : ℕ) → Exactly (answer ≡ Refused e i) (WriteRefused table n block e i)
   -- demand 2: what was written of a good table reads back as its rows without their comments
   pub written-read-back : (table : List ℤ) (n : ℕ) (rs : Rows) → Good table n rs → (block : List ℕ) (m : ℕ) (text : List ℕ)
       → WriteCall table n block (Done m) text → (lent : List ℤ) → rowWidth * length (withoutComments rs) ≤ length lent

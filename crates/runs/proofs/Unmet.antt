@@ -1,7 +1,7 @@
 -- How a rerun ends, also of rows that are not all found whole: it goes on without agreement up to a row at which old and new
 -- states agree, or to one that stops it, or past the last. Each way out is taken exactly where this is so.
 use mathlib.Core.Path.{_≡_, refl, sym, ap, _∙_, subst}
-use mathlib.Core.Bool.{Bool, true, false, false≢true, cond}
+use mathlib.Core.Bool.{Bool, true, false, false≢true}
 use mathlib.Core.List.{List, [], _∷_, _++_, append-nil}
 use Prim.Native.Nat.{ℕ, suc, _+_}
 use native.Mathlib.Omega.{arith}

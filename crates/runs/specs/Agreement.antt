@@ -17,20 +17,24 @@ pub record FirstAgreement {C S : Type 0} (p : S) (old new : List (Row C S)) (k m
   pub differ : (j : ℕ) → k ≤ j → j < m → stateAfter p old j ≡ stateAfter p new j → ⊥
   pub agrees : m < length old → stateAfter p old m ≡ stateAfter p new m
 
--- old rows rerun from state p as new ones, without agreement: each command is taken again, and no state is the one that stands there
+-- old rows rerun from state p as new ones, without agreement: each command is taken again, and no state is the one that
+-- stands there
 pub data Unmet {C S : Type 0} (Takes : S → C → S → Type 0) : S → List (Row C S) → List (Row C S) → Type 0 where
   nothing : {p : S} → Unmet Takes p [] []
-  further : {p q : S} {r : Row C S} {old new : List (Row C S)} → Takes p (r .command) q → (q ≡ r .state → ⊥) → Unmet Takes q old new
+  further : {p q : S} {r : Row C S} {old new : List (Row C S)}
+      → Takes p (r .command) q → (q ≡ r .state → ⊥) → Unmet Takes q old new
       → Unmet Takes p (r ∷ old) (record { command = r .command; state = q } ∷ new)
 
--- Once two runs agree in state after the same line, and the lines left are the same, nothing further can differ: neither a row nor a
--- refusal.
-pub record NothingFurther {L C S R : Type 0} (read : ℕ → L → Out C R) (step : S → C → Out S R) (final : S → Bool) (short : R) : Type 0 where
+-- Once two runs agree in state after the same line, and the lines left are the same, nothing further can differ: neither a row
+-- nor a refusal.
+pub record NothingFurther {L C S R : Type 0} (read : ℕ → L → Out C R) (step : S → C → Out S R) (final : S → Bool)
+    (short : R) : Type 0 where
   -- two accepted runs, after line m
   pub rows : (p q : S) (xs ys : List L) (i m : ℕ) (rs ss : List (Row C S))
-      → run read step final short p xs i ≡ accepted rs → run read step final short q ys i ≡ accepted ss → m ≤ length xs → m ≤ length ys
-      → drop m xs ≡ drop m ys → stateAfter p rs m ≡ stateAfter q ss m → drop m rs ≡ drop m ss
+      → run read step final short p xs i ≡ accepted rs → run read step final short q ys i ≡ accepted ss
+      → m ≤ length xs → m ≤ length ys → drop m xs ≡ drop m ys → stateAfter p rs m ≡ stateAfter q ss m → drop m rs ≡ drop m ss
   -- lines xs and ys, as many of each, read as rows rs and ss; then the lines ls
-  pub refusal : (p q : S) (xs ys : List L) (i : ℕ) (rs ss : List (Row C S)) → Chain (ReadBy read) (StepBy step) p i xs rs → Chain (ReadBy read) (StepBy step) q i ys ss
+  pub refusal : (p q : S) (xs ys : List L) (i : ℕ) (rs ss : List (Row C S))
+      → Chain (ReadBy read) (StepBy step) p i xs rs → Chain (ReadBy read) (StepBy step) q i ys ss
       → length xs ≡ length ys → lastOf p rs ≡ lastOf q ss → (ls : List L) (e : R) (j : ℕ)
       → run read step final short p (xs ++ ls) i ≡ refused e j → run read step final short q (ys ++ ls) i ≡ refused e j

@@ -1,0 +1,3 @@
+-- One thing exactly where another is so: each follows from the other.
+abbrev pub Exactly : Type 0 → Type 0 → Type 0
+Exactly A B = (A → B) × (B → A)
