@@ -34,8 +34,8 @@ use Rattle.laws.proofs.Lines.{new-no-lf, new-no-cr, no-line-end}
 use Rattle.laws.proofs.Entries.{entries-length}
 use Rattle.obeys.proofs.Lines.{LineSays, line-sound, line-says}
 use Rattle.obeys.proofs.Files.{taken-takes, takes-taken, taken-refused, refused-taken}
-use Rattle.demands.specs.HoleRefused.{LineOfTable, rowAt, StateBefore}
-use Rattle.demands.specs.EditRefused.{NoLineEnd, Edits, rowsFrom, Stops, bad-row, untaken, too-soon, EditRefused, sizes, no-line, line-end, row-before, row-itself, new-line, rows, Meets, agree, last, EditRefusedExactly}
+use Rattle.demands.specs.HoleRefused.{LineOfTable, foundAt, StateBefore}
+use Rattle.demands.specs.EditRefused.{NoLineEnd, MayEdit, rowsFrom, Stops, bad-row, untaken, too-soon, EditRefused, sizes, no-line, line-end, row-before, row-itself, new-line, rows, Meets, agree, last, EditRefusedExactly}
 use Rattle.demands.proofs.HoleRefused.{line-of, no-line-of, line-not, BeforeIs, before-is, is-before, bad-before}
 
 -- ---- a line end
@@ -84,7 +84,7 @@ module _ (t : List ℤ) (n k : ℕ) (l : List ℕ) where
   EditSays (accepted s) = Meets t n k l (s .meeting)
   EditSays (refused e i) = EditRefused t n k l e i
 
-  module _ {p : State} {old : Row Command State} (w : Edits t n k l p old) where
+  module _ {p : State} {old : Row Command State} (w : MayEdit t n k l p old) where
     -- ---- the new command and the rows after it
 
     module _ (c : Command) (sp : SpellsLine l c) where
@@ -128,7 +128,7 @@ module _ (t : List ℤ) (n k : ℕ) (l : List ℕ) where
 
   -- ---- the rows before it and at it
 
-  row-told : LineOfTable t n k → NoLineEnd l → {p : State} → StateBefore t n k p → (e : Entry Command State) → rowAt t n k ≡ e
+  row-told : LineOfTable t n k → NoLineEnd l → {p : State} → StateBefore t n k p → (e : Entry Command State) → foundAt t n k ≡ e
       → EditSays (onBefore (stateIn e) (refused badTable k) (λ o. onOut (sayOut (lineOf l)) (λ e. refused e k) (λ c. editFrom (entriesOf n t) k p o c)))
   unfolding EditSays
   row-told a b s (holds r) d = line-told (record { line = a; no-end = b; before = s; row = d }) (sayOut (lineOf l)) (line-sound l)
@@ -136,9 +136,9 @@ module _ (t : List ℤ) (n k : ℕ) (l : List ℕ) where
 
   before-told : LineOfTable t n k → NoLineEnd l → (x : Before) → BeforeIs t n k x
       → EditSays (onBefore x (refused badTable (k - 1))
-      (λ p. onBefore (stateIn (rowAt t n k)) (refused badTable k) (λ o. onOut (sayOut (lineOf l)) (λ e. refused e k) (λ c. editFrom (entriesOf n t) k p o c))))
+      (λ p. onBefore (stateIn (foundAt t n k)) (refused badTable k) (λ o. onOut (sayOut (lineOf l)) (λ e. refused e k) (λ c. editFrom (entriesOf n t) k p o c))))
   unfolding EditSays
-  before-told a b (From p) s = row-told a b s (rowAt t n k) refl
+  before-told a b (From p) s = row-told a b s (foundAt t n k) refl
   before-told a b Bad s = row-before a b (s .0) (s .1)
 
   edit-says : EditSays (editOf t n k l)
@@ -147,7 +147,7 @@ module _ (t : List ℤ) (n k : ℕ) (l : List ℕ) where
       cond-all EditSays (sizesFit t n) {b = refused badTable 0}
       (λ s. cond-all EditSays (isLine n k) {b = refused noSuchLine 0}
       (λ h. cond-all EditSays (noLineEnd l) {b = refused holdsLineEnd 0}
-      (λ e. let a = line-of t n k s h in before-told a (end-free l e) (beforeLine k (rowAt t n (k - 1))) (before-is t n k (a .from)))
+      (λ e. let a = line-of t n k s h in before-told a (end-free l e) (beforeLine k (foundAt t n (k - 1))) (before-is t n k (a .from)))
       (λ e. line-end (line-of t n k s h) (λ f. false≢true (sym e ∙ free-end f))))
       (λ h. no-line (sizes-say t n s) (no-line-of t n k h)))
       (λ s. sizes (bad-sizes t n s))

@@ -24,7 +24,7 @@ use Rattle.rules.specs.Editing.{isLine, stateIn, beforeLine, onBefore}
 use Rattle.rules.specs.Asking.{onRow, holeIn, holeAnswer}
 use Rattle.laws.proofs.Sizes.{line-says, line-is, sizes-fit, sizes-say, bad-sizes, sizes-bad}
 use Rattle.laws.proofs.Ways.{hole-all}
-use Rattle.demands.specs.HoleRefused.{LineOfTable, rowAt, StateBefore, first, after, HoleRefused, sizes, no-line, row-before, row-itself, HoleRefusedExactly}
+use Rattle.demands.specs.HoleRefused.{LineOfTable, foundAt, StateBefore, first, after, HoleRefused, sizes, no-line, row-before, row-itself, HoleRefusedExactly}
 
 module _ (t : List ℤ) (n k : ℕ) where
   -- ---- the tests before a row is looked at
@@ -46,24 +46,24 @@ module _ (t : List ℤ) (n k : ℕ) where
 
   abbrev pub BeforeIs : Before → Type 0
   BeforeIs (From p) = StateBefore t n k p
-  BeforeIs Bad = (1 < k) × (rowAt t n (k - 1) ≡ bad)
+  BeforeIs Bad = (1 < k) × (foundAt t n (k - 1) ≡ bad)
 
-  row-before-is : 1 < k → (e : Entry Command State) → rowAt t n (k - 1) ≡ e → BeforeIs (stateIn e)
+  row-before-is : 1 < k → (e : Entry Command State) → foundAt t n (k - 1) ≡ e → BeforeIs (stateIn e)
   row-before-is h (holds r) d = after h d refl
   row-before-is h bad d = (h, d)
 
-  pub before-is : 1 ≤ k → BeforeIs (beforeLine k (rowAt t n (k - 1)))
+  pub before-is : 1 ≤ k → BeforeIs (beforeLine k (foundAt t n (k - 1)))
   unfolding beforeLine
   before-is a =
       cond-all BeforeIs (leb k 1) {a = From start} (λ h. let d = leb-true k 1 h in first (omega arith) refl)
-      (λ h. row-before-is (leb-false k 1 h) (rowAt t n (k - 1)) refl)
+      (λ h. row-before-is (leb-false k 1 h) (foundAt t n (k - 1)) refl)
 
-  pub is-before : {p : State} → StateBefore t n k p → beforeLine k (rowAt t n (k - 1)) ≡ From p
+  pub is-before : {p : State} → StateBefore t n k p → beforeLine k (foundAt t n (k - 1)) ≡ From p
   unfolding beforeLine
   is-before (first d e) = rw (le-leb k 1 (omega arith), e)
   is-before (after h d e) = rw (lt-leb k 1 h, d, e)
 
-  pub bad-before : 1 < k → rowAt t n (k - 1) ≡ bad → beforeLine k (rowAt t n (k - 1)) ≡ Bad
+  pub bad-before : 1 < k → foundAt t n (k - 1) ≡ bad → beforeLine k (foundAt t n (k - 1)) ≡ Bad
   unfolding beforeLine
   bad-before h d = rw (lt-leb k 1 h, d)
 
@@ -74,16 +74,16 @@ module _ (t : List ℤ) (n k : ℕ) where
   HoleSays Nothing = Unit {0}
   HoleSays (Refused e i) = HoleRefused t n k e i
 
-  row-says : LineOfTable t n k → (p : State) → StateBefore t n k p → (e : Entry Command State) → rowAt t n k ≡ e
+  row-says : LineOfTable t n k → (p : State) → StateBefore t n k p → (e : Entry Command State) → foundAt t n k ≡ e
       → HoleSays (onRow e (Refused badTable k) (λ r. holeOf (p .at) (r .command) (r .state)))
   unfolding HoleSays
   row-says w p s (holds r) d = hole-all HoleSays (p .at) (r .state) (r .command) tt (λ _. tt)
   row-says w p s bad d = row-itself w s d
 
   before-says : LineOfTable t n k → (b : Before) → BeforeIs b
-      → HoleSays (onBefore b (Refused badTable (k - 1)) (λ p. onRow (rowAt t n k) (Refused badTable k) (λ r. holeOf (p .at) (r .command) (r .state))))
+      → HoleSays (onBefore b (Refused badTable (k - 1)) (λ p. onRow (foundAt t n k) (Refused badTable k) (λ r. holeOf (p .at) (r .command) (r .state))))
   unfolding HoleSays
-  before-says w (From p) s = row-says w p s (rowAt t n k) refl
+  before-says w (From p) s = row-says w p s (foundAt t n k) refl
   before-says w Bad s = row-before w (s .0) (s .1)
 
   hole-says : HoleSays (holeAnswer t n k)
@@ -91,7 +91,7 @@ module _ (t : List ℤ) (n k : ℕ) where
   hole-says =
       cond-all HoleSays (sizesFit t n) {b = Refused badTable 0}
       (λ s. cond-all HoleSays (isLine n k) {b = Refused noSuchLine 0}
-      (λ h. let w = line-of s h in before-says w (beforeLine k (rowAt t n (k - 1))) (before-is (w .from)))
+      (λ h. let w = line-of s h in before-says w (beforeLine k (foundAt t n (k - 1))) (before-is (w .from)))
       (λ h. no-line (sizes-say t n s) (no-line-of h)))
       (λ s. sizes (bad-sizes t n s))
 
@@ -108,7 +108,7 @@ module _ (t : List ℤ) (n k : ℕ) where
   so-refused (row-before w h d) = at-line w ∙ rw (bad-before h d)
   so-refused (row-itself w s d) = at-line w ∙ rw (is-before s, d)
 
-  so-answered : (p : State) (r : Row Command State) → LineOfTable t n k → StateBefore t n k p → rowAt t n k ≡ holds r
+  so-answered : (p : State) (r : Row Command State) → LineOfTable t n k → StateBefore t n k p → foundAt t n k ≡ holds r
       → holeAnswer t n k ≡ holeOf (p .at) (r .command) (r .state)
   unfolding holeIn
   so-answered p r w s d = at-line w ∙ rw (is-before s, d)

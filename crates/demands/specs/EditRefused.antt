@@ -20,7 +20,7 @@ use Rattle.rules.specs.Editing.{editAnswer}
 use Rattle.rules.specs.Spelling.{SpellsLine}
 use Rattle.rules.specs.Obeys.{Takes}
 use Rattle.obeys.specs.Faults.{Untaken, LineRefused}
-use Rattle.demands.specs.HoleRefused.{LineOfTable, rowAt, StateBefore}
+use Rattle.demands.specs.HoleRefused.{LineOfTable, foundAt, StateBefore}
 
 -- bytes without a line end
 pub record NoLineEnd (l : List ℕ) : Type 0 where
@@ -29,11 +29,11 @@ pub record NoLineEnd (l : List ℕ) : Type 0 where
 
 -- line k may get the text l: the tests up to 17 are passed, and so are those of the row before, which leaves the state p,
 -- and of the old row
-pub record Edits (t : List ℤ) (n k : ℕ) (l : List ℕ) (p : State) (old : Row Command State) : Type 0 where
+pub record MayEdit (t : List ℤ) (n k : ℕ) (l : List ℕ) (p : State) (old : Row Command State) : Type 0 where
   pub line : LineOfTable t n k
   pub no-end : NoLineEnd l
   pub before : StateBefore t n k p
-  pub row : rowAt t n k ≡ holds old
+  pub row : foundAt t n k ≡ holds old
 
 -- the rows from line k on as they are found, with a new command in line k
 abbrev pub rowsFrom : List ℤ → ℕ → ℕ → Command → Row Command State → List (Entry Command State)
@@ -52,14 +52,14 @@ pub data EditRefused (t : List ℤ) (n k : ℕ) (l : List ℕ) : Refusal → ℕ
   sizes : (Sizes t n → ⊥) → EditRefused t n k l badTable 0
   no-line : Sizes t n → (LineOfTable t n k → ⊥) → EditRefused t n k l noSuchLine 0
   line-end : LineOfTable t n k → (NoLineEnd l → ⊥) → EditRefused t n k l holdsLineEnd 0
-  row-before : LineOfTable t n k → NoLineEnd l → 1 < k → rowAt t n (k - 1) ≡ bad → EditRefused t n k l badTable (k - 1)
-  row-itself : {p : State} → LineOfTable t n k → NoLineEnd l → StateBefore t n k p → rowAt t n k ≡ bad
+  row-before : LineOfTable t n k → NoLineEnd l → 1 < k → foundAt t n (k - 1) ≡ bad → EditRefused t n k l badTable (k - 1)
+  row-itself : {p : State} → LineOfTable t n k → NoLineEnd l → StateBefore t n k p → foundAt t n k ≡ bad
       → EditRefused t n k l badTable k
   -- the new line, from 6 on
-  new-line : {p : State} {old : Row Command State} {e : Refusal} → Edits t n k l p old → LineRefused l e → EditRefused t n k l e k
+  new-line : {p : State} {old : Row Command State} {e : Refusal} → MayEdit t n k l p old → LineRefused l e → EditRefused t n k l e k
   -- the new command, and the rows up to the meeting line: some are taken again without agreement, and the next one stops it
   rows : {p : State} {old : Row Command State} {c : Command} {past new : Rows} {left : List (Entry Command State)} {e : Refusal}
-      → Edits t n k l p old → SpellsLine l c → rowsFrom t n k c old ≡ allHold past ++ left
+      → MayEdit t n k l p old → SpellsLine l c → rowsFrom t n k c old ≡ allHold past ++ left
       → Unmet Takes p past new → Stops (lastOf p new) left e
       → EditRefused t n k l e (k + length new)
 
@@ -67,11 +67,11 @@ pub data EditRefused (t : List ℤ) (n k : ℕ) (l : List ℕ) : Refusal → ℕ
 -- next one old and new states agree; or there is none, and the run has ended
 pub data Meets (t : List ℤ) (n k : ℕ) (l : List ℕ) : ℕ → Type 0 where
   agree : {p : State} {old : Row Command State} {c : Command} {past new : Rows} {r : Row Command State}
-      (left : List (Entry Command State)) → Edits t n k l p old → SpellsLine l c
+      (left : List (Entry Command State)) → MayEdit t n k l p old → SpellsLine l c
       → rowsFrom t n k c old ≡ allHold past ++ (holds r ∷ left) → Unmet Takes p past new
       → Takes (lastOf p new) (r .command) (r .state) → Meets t n k l (k + length new)
   last : {p : State} {old : Row Command State} {c : Command} {past new : Rows}
-      → Edits t n k l p old → SpellsLine l c → rowsFrom t n k c old ≡ allHold past
+      → MayEdit t n k l p old → SpellsLine l c → rowsFrom t n k c old ≡ allHold past
       → Unmet Takes p past new → lastOf p new .phase ≡ over → Meets t n k l n
 
 pub record EditRefusedExactly : Type 0 where
