@@ -9,18 +9,21 @@ use lib.IntN.{ℤ}
 use lib.ListN.{length, drop, length-append}
 use Rattle.lists.specs.Put.{putAt}
 use Rattle.runs.specs.Machine.{Verdict, accepted, refused, allHold, Span}
+use Rattle.runs.specs.Agreement.{FirstAgreement}
+use Rattle.runs.proofs.Meeting.{one-meeting}
 use Rattle.rules.specs.declared.Command.{Command}
 use Rattle.rules.specs.declared.State.{State}
 use Rattle.rules.specs.declared.Refusal.{Refusal}
 use Rattle.rules.specs.declared.Answer.{Answer}
 use Rattle.rules.specs.declared.Answer.the-variants.{Done, Refused}
 use Rattle.rules.specs.Numbers.{maxFile}
+use Rattle.rules.specs.State.{start}
 use Rattle.rules.specs.Rows.{rowWidth, tableNumbers}
 use Rattle.rules.specs.Reading.{Rows, fileOf, readAnswer, readLeaves}
 use Rattle.rules.specs.Editing.{noLineEnd, editRows, editAnswer, editLeaves}
 use Rattle.laws.proofs.Entries.{table-length}
 use Rattle.demands.specs.EditedFile.{LineOf, edited}
-use Rattle.demands.specs.Demand3.{SameVerdict, SpanIs, AsReadAfresh, Demand3}
+use Rattle.demands.specs.Demand3.{SameVerdict, MeetsAt, SpanIs, AsReadAfresh, Demand3}
 use Rattle.answers.proofs.AcceptedFile.{read-done, file-run, file-of, file-few, file-ok, read-accepts, read-writes, read-refuses}
 use Rattle.demands.proofs.EveryLine.{every-line, one-edited}
 use Rattle.demands.proofs.EditRows.{edit-agreement}
@@ -103,5 +106,17 @@ module _ (bs : List ℕ) (t : List ℤ) (n : ℕ) (h : readAnswer bs t ≡ Done 
       (sym (read-writes bs t (d .rows) (d .read) (d .room))) (d .counted)
       (whole w (d .rows) (d .read) l hl hb (drop (0 + length (tableNumbers (d .rows))) t))
 
+meets-once : (old-file new-file : List ℕ) (k m n : ℕ) → MeetsAt old-file new-file k m → MeetsAt old-file new-file k n → m ≡ n
+meets-once old-file new-file k m n v w =
+    let p : v .old ≡ w .old = let e = sym (v .read-old) ∙ w .read-old in cc in
+    let q : v .new ≡ w .new = let e = sym (v .read-new) ∙ w .read-new in cc in
+    one-meeting (subst₂ (λ (a b : Rows). FirstAgreement start a b k m) p q (v .first)) (w .first)
+
 pub demand-3 : Demand3
-demand-3 = record { every-line = line; no-other = no-other; one-edited = λ bs k v w l h. one-edited v w l h; as-read-afresh = as-read }
+demand-3 = record {
+  every-line = line;
+  no-other = no-other;
+  one-edited = λ bs k v w l h. one-edited v w l h;
+  as-read-afresh = as-read;
+  one-meeting = meets-once;
+}

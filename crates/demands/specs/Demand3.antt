@@ -58,3 +58,5 @@ pub record Demand3 : Type 0 where
   -- line k gets the text l, which holds no line end, and the edited file is no larger than a file may be
   pub as-read-afresh : (bs : List ℕ) (t : List ℤ) (n : ℕ) → readAnswer bs t ≡ Done n → (k : ℕ) (w : LineOf bs k) (l : List ℕ)
       → noLineEnd l ≡ true → length (edited w l) ≤ maxFile → AsReadAfresh bs (edited w l) (readLeaves bs t) n k l
+  -- and two files meet at one line only
+  pub one-meeting : (old-file new-file : List ℕ) (k m n : ℕ) → MeetsAt old-file new-file k m → MeetsAt old-file new-file k n → m ≡ n
