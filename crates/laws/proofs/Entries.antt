@@ -1,14 +1,12 @@
--- A table as the list of its entries: each entry is the look at its row, rows written in are found again, and the rest
--- of the table is not touched. All by recursion on how many rows come before.
+-- A table as the list of its entries: each entry is the look at its row, and rows are found again in their numbers. All by
+-- recursion on how many rows come before.
 use mathlib.Core.Path.{_≡_, refl, sym, ap, ap₂, _∙_}
 use mathlib.Core.List.{List, [], _∷_, _++_, append-assoc, append-nil}
 use Prim.Native.Nat.{ℕ, zero, suc, _+_, _-_, _*_, _≤_}
 use native.Mathlib.Omega.{arith}
 use lib.IntN.{ℤ}
 use lib.ListN.{length, take, drop, length-append, length-drop, take-append-drop}
-use lib.Seq.{drop-drop, take-at, drop-at, length-take-le, take-append-le, drop-append-le}
-use Rattle.lists.specs.Put.{putAt}
-use Rattle.lists.proofs.Put.{put-length, put-before, put-from, put-after}
+use lib.Seq.{drop-drop, drop-at, length-take-le}
 use Rattle.runs.specs.Machine.{Row, holds, allHold}
 use Rattle.rules.specs.declared.Command.{Command}
 use Rattle.rules.specs.declared.State.{State}
@@ -53,29 +51,10 @@ module _ (n : ℕ) (t : List ℤ) (k : ℕ) where
   split : k ≤ n → entriesOf n t ≡ entriesOf k t ++ entriesOf (n - k) (drop (rowWidth * k) t)
   split h = let e : n ≡ k + (n - k) = omega arith in ap (λ (z : ℕ). entriesOf z t) e ∙ entries-add k (n - k) t
 
-  pub entries-take : k ≤ n → take k (entriesOf n t) ≡ entriesOf k t
-  entries-take h = rw (split h) (take-at (entriesOf k t) (entriesOf (n - k) (drop (rowWidth * k) t)) k (entries-length k t))
-
   pub entries-drop : k ≤ n → drop k (entriesOf n t) ≡ entriesOf (n - k) (drop (rowWidth * k) t)
   entries-drop h = rw (split h) (drop-at (entriesOf k t) (entriesOf (n - k) (drop (rowWidth * k) t)) k (entries-length k t))
 
 -- ---- rows found again
-
--- k rows are found in the first rowWidth * k numbers
-entries-front : (k : ℕ) (p q : List ℤ) → length p ≡ rowWidth * k → entriesOf k (p ++ q) ≡ entriesOf k p
-unfolding entriesOf
-entries-front zero p q e = refl
-entries-front (suc k) p q e =
-    rw (take-append-le rowWidth p q (omega arith), drop-append-le rowWidth p q (omega arith))
-    (ap (_∷_ (entryOf (lookOf (take rowWidth p)))) (entries-front k (drop rowWidth p) q (simp length-drop (omega arith))))
-
-entries-same : (k : ℕ) (t u : List ℤ) → rowWidth * k ≤ length t → rowWidth * k ≤ length u → take (rowWidth * k) t ≡ take (rowWidth * k) u → entriesOf k t ≡ entriesOf k u
-entries-same k t u h j e =
-    ap (entriesOf k) (sym (take-append-drop (rowWidth * k) t))
-    ∙ entries-front k (take (rowWidth * k) t) (drop (rowWidth * k) t) (length-take-le (rowWidth * k) t h)
-    ∙ ap (entriesOf k) e
-    ∙ sym (entries-front k (take (rowWidth * k) u) (drop (rowWidth * k) u) (length-take-le (rowWidth * k) u j))
-    ∙ ap (entriesOf k) (take-append-drop (rowWidth * k) u)
 
 pub entries-table : (rs : List (Row Command State)) (rest : List ℤ) → RowsOk rs → entriesOf (length rs) (tableNumbers rs ++ rest) ≡ allHold rs
 unfolding entriesOf tableNumbers allHold
@@ -87,42 +66,6 @@ entries-table (r ∷ rs) rest h =
       drop-at (rowNumbers r) (tableNumbers rs ++ rest) rowWidth (row-length r),
     )
     (ap (_∷_ (holds r)) (entries-table rs rest (h .2)))
-
--- ---- rows written into a table
-
-module _ (n : ℕ) (t : List ℤ) (k : ℕ) (rs : List (Row Command State)) (h : k + length rs ≤ n) (m : rowWidth * n ≤ length t) where
-  fits : rowWidth * k + length (tableNumbers rs) ≤ rowWidth * n
-  fits = omega (arith, table-length rs)
-
-  -- the rows before
-  pub entries-before : take k (entriesOf n (putAt t (rowWidth * k) (tableNumbers rs))) ≡ take k (entriesOf n t)
-  entries-before =
-      entries-take n (putAt t (rowWidth * k) (tableNumbers rs)) k (omega arith)
-      ∙ entries-same k (putAt t (rowWidth * k) (tableNumbers rs)) t (rw (put-length t (rowWidth * k) (tableNumbers rs) (omega (arith, fits))) (omega arith)) (omega arith) (put-before t (rowWidth * k) (tableNumbers rs) (omega arith))
-      ∙ sym (entries-take n t k (omega arith))
-
-  -- the rows after
-  pub entries-after : (j : ℕ) → k + length rs ≤ j → j ≤ n → drop j (entriesOf n (putAt t (rowWidth * k) (tableNumbers rs))) ≡ drop j (entriesOf n t)
-  entries-after j p q =
-      entries-drop n (putAt t (rowWidth * k) (tableNumbers rs)) j q
-      ∙ ap (entriesOf (n - j)) (put-after t (rowWidth * k) (rowWidth * j) (tableNumbers rs) (omega (arith, table-length rs)) (omega arith))
-      ∙ sym (entries-drop n t j q)
-
-  -- the rows themselves
-  entries-within : RowsOk rs → take (length rs) (drop k (entriesOf n (putAt t (rowWidth * k) (tableNumbers rs)))) ≡ allHold rs
-  entries-within ok =
-      ap (take (length rs)) (entries-drop n (putAt t (rowWidth * k) (tableNumbers rs)) k (omega arith))
-      ∙ entries-take (n - k) (drop (rowWidth * k) (putAt t (rowWidth * k) (tableNumbers rs))) (length rs) (omega arith)
-      ∙ rw (put-from t (rowWidth * k) (tableNumbers rs) (omega arith)) (entries-table rs (drop (rowWidth * k + length (tableNumbers rs)) t) ok)
-
-  pub entries-put : RowsOk rs
-      → entriesOf n (putAt t (rowWidth * k) (tableNumbers rs)) ≡ take k (entriesOf n t) ++ (allHold rs ++ drop (k + length rs) (entriesOf n t))
-  entries-put ok =
-      let es = entriesOf n (putAt t (rowWidth * k) (tableNumbers rs)) in
-      sym (take-append-drop k es)
-      ∙ ap₂ _++_ entries-before
-      (sym (take-append-drop (length rs) (drop k es))
-      ∙ ap₂ _++_ (entries-within ok) (drop-drop (length rs) k es ∙ entries-after (k + length rs) (omega arith) h))
 
 -- ---- a table of whole rows is their numbers
 
