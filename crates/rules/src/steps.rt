@@ -149,7 +149,7 @@ impl State {
     fn hit(self) -> Next
         ensures { λ r. ⌜ r ≡ S.hit self ⌝ }
     {
-        if self.phase != phase::BODY {
+        if self.phase != phase::BODY { // the phase before the motion
             return Next::No(WRONG_PHASE);
         }
         if self.motion != motion::DRILL {
