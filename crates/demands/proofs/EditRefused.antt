@@ -8,6 +8,7 @@ use native.Mathlib.Omega.{arith}
 use borrow.Author.Tests.{eq-eqb, ne-eqb, eqb-true, eqb-false}
 use lib.IntN.{ℤ}
 use lib.ListN.{length, length-drop}
+use Rattle.lists.specs.Exactly.{Exactly}
 use Rattle.lists.proofs.Choice.{cond-all}
 use Rattle.runs.specs.Machine.{Out, yields, stops, onOut, Verdict, accepted, refused, Row, Entry, holds, bad, allHold, Span, lastOf, StepBy}
 use Rattle.runs.specs.Agreement.{Unmet}
@@ -69,7 +70,8 @@ stops-halt {s} (too-soon h) = U.too-soon (ne-eqb (s .phase) over h)
 EndsAt : State → ℕ → List (Entry Command State) → Verdict (Span Command State) Refusal → Type 0
 EndsAt = Ends taken sameState hasEnded badTable endsTooSoon (λ a b. same-state-iff a b .0) (λ a. same-state-iff a a .1 refl)
 
-rerun-is : (p : State) (es : List (Entry Command State)) (i : ℕ) (v : Verdict (Span Command State) Refusal) → (rerunFrom p es i ≡ v → EndsAt p i es v) × (EndsAt p i es v → rerunFrom p es i ≡ v)
+rerun-is : (p : State) (es : List (Entry Command State)) (i : ℕ) (v : Verdict (Span Command State) Refusal)
+    → Exactly (rerunFrom p es i ≡ v) (EndsAt p i es v)
 unfolding EndsAt
 rerun-is = rerun-iff taken sameState hasEnded badTable endsTooSoon (λ a b. same-state-iff a b .0) (λ a. same-state-iff a a .1 refl)
 
@@ -84,6 +86,10 @@ module _ (t : List ℤ) (n k : ℕ) (l : List ℕ) where
   EditSays (accepted s) = Meets t n k l (s .meeting)
   EditSays (refused e i) = EditRefused t n k l e i
 
+  -- from the state p before line k, whose old row left the state o: the new line, and the rows from its command on
+  abbrev newLine : State → State → Verdict (Span Command State) Refusal
+  newLine p o = onOut (sayOut (lineOf l)) (λ e. refused e k) (λ c. editFrom (entriesOf n t) k p o c)
+
   module _ {p : State} {old : Row Command State} (w : MayEdit t n k l p old) where
     -- ---- the new command and the rows after it
 
@@ -93,7 +99,8 @@ module _ (t : List ℤ) (n k : ℕ) (l : List ℕ) where
       reaches-last rs d =
           omega (arith, w .line .from, w .line .upto, ap length d, hold-length rs, length-drop k (entriesOf n t), entries-length n t)
 
-      ends-says : (es : List (Entry Command State)) (v : Verdict (Span Command State) Refusal) → rowsFrom t n k c old ≡ es → EndsAt p (k - 1) es v → EditSays v
+      ends-says : (es : List (Entry Command State)) (v : Verdict (Span Command State) Refusal) → rowsFrom t n k c old ≡ es
+          → EndsAt p (k - 1) es v → EditSays v
       unfolding EditSays EndsAt
       ends-says es v d (halted {new = new} {e = e} {j = j} u h m) =
           let z : k + length new ≡ j = omega (arith, m, w .line .from) in
@@ -117,7 +124,7 @@ module _ (t : List ℤ) (n k : ℕ) (l : List ℕ) where
     line-told (stops e) r = new-line w r
 
     -- the edit comes so far
-    reached : editOf t n k l ≡ onOut (sayOut (lineOf l)) (λ e. refused e k) (λ c. editFrom (entriesOf n t) k p (old .state) c)
+    reached : editOf t n k l ≡ newLine p (old .state)
     unfolding editOf editRows
     reached =
         rw (sizes-fit t n (w .line .sizes), line-is n k (w .line .from) (w .line .upto), free-end (w .no-end), is-before t n k (w .before), w .row)
@@ -129,14 +136,13 @@ module _ (t : List ℤ) (n k : ℕ) (l : List ℕ) where
   -- ---- the rows before it and at it
 
   row-told : LineOfTable t n k → NoLineEnd l → {p : State} → StateBefore t n k p → (e : Entry Command State) → foundAt t n k ≡ e
-      → EditSays (onBefore (stateIn e) (refused badTable k) (λ o. onOut (sayOut (lineOf l)) (λ e. refused e k) (λ c. editFrom (entriesOf n t) k p o c)))
+      → EditSays (onBefore (stateIn e) (refused badTable k) (newLine p))
   unfolding EditSays
   row-told a b s (holds r) d = line-told (record { line = a; no-end = b; before = s; row = d }) (sayOut (lineOf l)) (line-sound l)
   row-told a b s bad d = row-itself a b s d
 
   before-told : LineOfTable t n k → NoLineEnd l → (x : Before) → BeforeIs t n k x
-      → EditSays (onBefore x (refused badTable (k - 1))
-      (λ p. onBefore (stateIn (foundAt t n k)) (refused badTable k) (λ o. onOut (sayOut (lineOf l)) (λ e. refused e k) (λ c. editFrom (entriesOf n t) k p o c))))
+      → EditSays (onBefore x (refused badTable (k - 1)) (λ p. onBefore (stateIn (foundAt t n k)) (refused badTable k) (newLine p)))
   unfolding EditSays
   before-told a b (From p) s = row-told a b s (foundAt t n k) refl
   before-told a b Bad s = row-before a b (s .0) (s .1)
@@ -164,7 +170,8 @@ module _ (t : List ℤ) (n k : ℕ) (l : List ℕ) where
   refused-edit (new-line {e = e} w r) = reached w ∙ rw (line-says l (stops e) .1 r)
   refused-edit (rows {p = p} {c = c} {new = new} {e = e} w sp d u h) =
       reached-command w c sp ∙ ap (λ (es : List (Entry Command State)). rerunFrom p es (k - 1)) d
-      ∙ rerun-is p _ (k - 1) (refused e (k + length new)) .1 (halted {j = k + length new} (by-machine u) (stops-halt h) (omega (arith, w .line .from)))
+      ∙ rerun-is p _ (k - 1) (refused e (k + length new)) .1
+      (halted {j = k + length new} (by-machine u) (stops-halt h) (omega (arith, w .line .from)))
 
   met-edit : {m : ℕ} → Meets t n k l m → (s : Span Command State) × (editOf t n k l ≡ accepted s) × (s .meeting ≡ m)
   unfolding EndsAt
@@ -179,7 +186,8 @@ module _ (t : List ℤ) (n k : ℕ) (l : List ℕ) where
       let s : Span Command State = record { meeting = n; rows = new } in (
         s,
         reached-command w c sp ∙ ap (λ (es : List (Entry Command State)). rerunFrom p es (k - 1)) d
-            ∙ rerun-is p _ (k - 1) (accepted s) .1 (past {s = s} (by-machine u) (eq-eqb (lastOf p new .phase) over h) (omega (arith, reaches-last w c sp rs d, unmet-length u)) refl),
+            ∙ rerun-is p _ (k - 1) (accepted s) .1
+            (past {s = s} (by-machine u) (eq-eqb (lastOf p new .phase) over h) (omega (arith, reaches-last w c sp rs d, unmet-length u)) refl),
         refl,
       )
 

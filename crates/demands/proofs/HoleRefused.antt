@@ -81,7 +81,8 @@ module _ (t : List ℤ) (n k : ℕ) where
   row-says w p s bad d = row-itself w s d
 
   before-says : LineOfTable t n k → (b : Before) → BeforeIs b
-      → HoleSays (onBefore b (Refused badTable (k - 1)) (λ p. onRow (foundAt t n k) (Refused badTable k) (λ r. holeOf (p .at) (r .command) (r .state))))
+      → HoleSays (onBefore b (Refused badTable (k - 1))
+      (λ p. onRow (foundAt t n k) (Refused badTable k) (λ r. holeOf (p .at) (r .command) (r .state))))
   unfolding HoleSays
   before-says w (From p) s = row-says w p s (foundAt t n k) refl
   before-says w Bad s = row-before w (s .0) (s .1)

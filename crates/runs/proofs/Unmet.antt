@@ -7,6 +7,7 @@ use Prim.Native.Nat.{ℕ, suc, _+_}
 use native.Mathlib.Omega.{arith}
 use native.Mathlib.Nat.{add-zero}
 use lib.ListN.{length}
+use Rattle.lists.specs.Exactly.{Exactly}
 use Rattle.lists.proofs.Choice.{cond-all}
 use Rattle.runs.specs.Machine.{Out, yields, stops, Verdict, accepted, refused, Row, Entry, holds, bad, allHold, Span, widen, lastOf, rerun, StepBy}
 use Rattle.runs.specs.Agreement.{Unmet, nothing, further}
@@ -51,7 +52,10 @@ module _ {C S R : Type 0} (step : S → C → Out S R) (same : S → S → Bool)
       past {s = record { meeting = s .meeting; rows = record { command = r .command; state = q } ∷ s .rows }} (further f n u) h (omega (arith, c))
       (ap (λ (z : List (Row C S)). record { command = r .command; state = q } ∷ z) d)
 
-  rerun-ends : (es : List (Entry C S)) (p : S) (i : ℕ) → Ends p i es (rerun step same final badRow short p es i)
+  abbrev again : S → List (Entry C S) → ℕ → Verdict (Span C S) R
+  again p es i = rerun step same final badRow short p es i
+
+  rerun-ends : (es : List (Entry C S)) (p : S) (i : ℕ) → Ends p i es (again p es i)
   unfolding rerun allHold lastOf
   rerun-ends [] p i =
       cond-all (Ends p i []) (final p) {b = refused short (i + 1)} (λ h. past nothing h (omega arith) refl)
@@ -79,7 +83,7 @@ module _ {C S R : Type 0} (step : S → C → Out S R) (same : S → S → Bool)
       by false e = e
 
   through : {p : S} {old new : List (Row C S)} → Unmet (StepBy step) p old new → (i : ℕ) (es : List (Entry C S))
-      → rerun step same final badRow short p (allHold old ++ es) i ≡ widens new (rerun step same final badRow short (lastOf p new) es (i + length new))
+      → again p (allHold old ++ es) i ≡ widens new (again (lastOf p new) es (i + length new))
   unfolding rerun allHold lastOf widens
   through nothing i es = rw (add-zero i) refl
   through (further {q = q} {r = r} {new = new} f n u) i es =
@@ -96,34 +100,36 @@ module _ {C S R : Type 0} (step : S → C → Out S R) (same : S → S → Bool)
   widens-accepted [] s = refl
   widens-accepted (r ∷ rs) s = ap (widen r) (widens-accepted rs s)
 
-  halts-first : {s : S} {es : List (Entry C S)} {e : R} → Halts step final badRow short s es e → (i : ℕ) → rerun step same final badRow short s es i ≡ refused e (i + 1)
+  halts-first : {s : S} {es : List (Entry C S)} {e : R} → Halts step final badRow short s es e → (i : ℕ)
+      → again s es i ≡ refused e (i + 1)
   unfolding rerun
   halts-first bad-row i = refl
   halts-first (untaken h) i = rw h
   halts-first (too-soon h) i = rw h
 
   met-first : (s : S) (r : Row C S) (es : List (Entry C S)) (i : ℕ) → step s (r .command) ≡ yields (r .state)
-      → rerun step same final badRow short s (holds r ∷ es) i ≡ accepted (record { meeting = i + 1; rows = r ∷ [] })
+      → again s (holds r ∷ es) i ≡ accepted (record { meeting = i + 1; rows = r ∷ [] })
   unfolding rerun
   met-first s r es i h = rw (h, same-refl (r .state))
 
-  past-last : (s : S) (i : ℕ) → final s ≡ true → rerun step same final badRow short s [] i ≡ accepted (record { meeting = i; rows = [] })
+  past-last : (s : S) (i : ℕ) → final s ≡ true → again s [] i ≡ accepted (record { meeting = i; rows = [] })
   unfolding rerun
   past-last s i h = rw h
 
-  ends-rerun : {p : S} {i : ℕ} {es : List (Entry C S)} {v : Verdict (Span C S) R} → Ends p i es v → rerun step same final badRow short p es i ≡ v
+  ends-rerun : {p : S} {i : ℕ} {es : List (Entry C S)} {v : Verdict (Span C S) R} → Ends p i es v → again p es i ≡ v
   ends-rerun {i = i} (halted {new = new} {rest = rest} {e = e} u h c) =
       through u i rest ∙ ap (widens new) (halts-first h (i + length new)) ∙ widens-refused new e (i + length new + 1) ∙ ap (refused e) c
   ends-rerun {p} {i} (met {new = new} {r = r} rest {s = s} u h c d) =
       through u i (holds r ∷ rest) ∙ ap (widens new) (met-first (lastOf p new) r rest (i + length new) h)
       ∙ widens-accepted new (record { meeting = i + length new + 1; rows = r ∷ [] }) ∙ (λ x. accepted (record { meeting = c x; rows = d x }))
   ends-rerun {p} {i} (past {old = old} {new = new} {s = s} u h c d) =
-      ap (λ (z : List (Entry C S)). rerun step same final badRow short p z i) (sym (append-nil (allHold old)))
+      ap (λ (z : List (Entry C S)). again p z i) (sym (append-nil (allHold old)))
       ∙ through u i [] ∙ ap (widens new) (past-last (lastOf p new) (i + length new) h)
-      ∙ widens-accepted new (record { meeting = i + length new; rows = [] }) ∙ (λ x. accepted (record { meeting = c x; rows = (append-nil new ∙ d) x }))
+      ∙ widens-accepted new (record { meeting = i + length new; rows = [] })
+      ∙ (λ x. accepted (record { meeting = c x; rows = (append-nil new ∙ d) x }))
 
   -- ---- each way out is taken exactly where this is so
 
   pub rerun-iff : (p : S) (es : List (Entry C S)) (i : ℕ) (v : Verdict (Span C S) R)
-      → (rerun step same final badRow short p es i ≡ v → Ends p i es v) × (Ends p i es v → rerun step same final badRow short p es i ≡ v)
+      → Exactly (rerun step same final badRow short p es i ≡ v) (Ends p i es v)
   rerun-iff p es i v = (λ h. subst (Ends p i es) h (rerun-ends es p i), ends-rerun)
