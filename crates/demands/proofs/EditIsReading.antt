@@ -27,7 +27,7 @@ use Rattle.rules.proofs.Same.{same-state-iff}
 use Rattle.laws.proofs.Lines.{lineWith}
 use Rattle.obeys.proofs.Split.{yields-line}
 use Rattle.demands.specs.EditedFile.{LineOf, edited}
-use Rattle.demands.proofs.EditedLines.{lines-old, lines-edited, text-new}
+use Rattle.demands.proofs.EditedLines.{lines-old, lines-edited, text-new, line-number}
 use Rattle.demands.proofs.EditRows.{rerunWith, edit-rows, rerun-redone}
 
 -- what an edit of line k says of all the rows
@@ -41,28 +41,28 @@ module _ {bs : List ℕ} {k : ℕ} (w : LineOf bs k) (rs : Rows) (h : runOf (lin
   xs : List Line
   xs = linesOf (w .before)
 
-  accepts : Accepts commandIn taken hasEnded start (xs ++ (lineWith (w .line) (w .ends) ∷ linesOf (w .after))) 0 rs
+  accepts : Accepts commandIn taken hasEnded start (xs ++ (lineWith (w .line) (w .here .ends) ∷ linesOf (w .after))) 0 rs
   unfolding runOf xs
-  accepts = run-reads commandIn taken hasEnded endsTooSoon start (xs ++ (lineWith (w .line) (w .ends) ∷ linesOf (w .after))) 0 rs (rw (lines-old w) at h)
+  accepts = run-reads commandIn taken hasEnded endsTooSoon start (xs ++ (lineWith (w .line) (w .here .ends) ∷ linesOf (w .after))) 0 rs (rw (lines-old w) at h)
 
-  rows : Around commandIn taken start xs (lineWith (w .line) (w .ends)) (linesOf (w .after)) 0 rs
-  rows = reads-around commandIn taken start xs (lineWith (w .line) (w .ends)) (linesOf (w .after)) 0 rs (accepts .reads)
+  rows : Around commandIn taken start xs (lineWith (w .line) (w .here .ends)) (linesOf (w .after)) 0 rs
+  rows = reads-around commandIn taken start xs (lineWith (w .line) (w .here .ends)) (linesOf (w .after)) 0 rs (accepts .reads)
 
   -- k by the lines before it, and by their rows
   by-lines : 0 + length xs + 1 ≡ k
   unfolding xs
-  by-lines = omega (arith, w .number)
+  by-lines = omega (arith, line-number w)
 
   by-rows : k ≡ length (rows .first) + 1
   unfolding xs
-  by-rows = omega (arith, w .number, chain-length (rows .reads-first))
+  by-rows = omega (arith, line-number w, chain-length (rows .reads-first))
 
-  new-line : commandIn (0 + length xs + 1) (lineWith l (w .ends)) ≡ sayOut (lineOf l)
+  new-line : commandIn (0 + length xs + 1) (lineWith l (w .here .ends)) ≡ sayOut (lineOf l)
   unfolding commandIn answerIn
   new-line =
       rw (
-        le-leb (0 + length xs + 1) maxLines (yields-line (0 + length xs + 1) (lineWith (w .line) (w .ends)) (rows .here .command) (rows .reads-here) .counted),
-        text-new l (w .ends) hl,
+        le-leb (0 + length xs + 1) maxLines (yields-line (0 + length xs + 1) (lineWith (w .line) (w .here .ends)) (rows .here .command) (rows .reads-here) .counted),
+        text-new l (w .here .ends) hl,
       )
 
   ends : hasEnded (lastOf (rows .here .state) (rows .rest)) ≡ true
@@ -81,16 +81,16 @@ module _ {bs : List ℕ} {k : ℕ} (w : LineOf bs k) (rs : Rows) (h : runOf (lin
       ∙ ap₂ (λ (z : Rows) (j : ℕ). putAt z j (s .rows)) (sym (rows .parts)) n)
 
   fresh-said : (x : Out Command Refusal) → sayOut (lineOf l) ≡ x
-      → runFrom start (xs ++ (lineWith l (w .ends) ∷ linesOf (w .after))) 0
+      → runFrom start (xs ++ (lineWith l (w .here .ends) ∷ linesOf (w .after))) 0
       ≡ withSpan rs k (onOut x (λ a. refused a k) (rerunWith (rows .first) (rows .here) (rows .rest) k by-rows l))
   fresh-said (stops a) u =
       edit-unread commandIn taken sameState hasEnded endsTooSoon badTable (λ a b. same-state-iff a b .0) start xs (linesOf (w .after)) 0
-      (rows .first) (rows .rest) (rows .here .state) (rows .reads-first) (rows .reads-rest) ends (lineWith l (w .ends)) a (new-line ∙ u)
+      (rows .first) (rows .rest) (rows .here .state) (rows .reads-first) (rows .reads-rest) ends (lineWith l (w .here .ends)) a (new-line ∙ u)
       ∙ ap (refused a) by-lines
   fresh-said (yields c) u =
       let n : 0 + length xs ≡ length (rows .first) = omega (arith, chain-length (rows .reads-first)) in
       edit-run commandIn taken sameState hasEnded endsTooSoon badTable (λ a b. same-state-iff a b .0) start xs (linesOf (w .after)) 0
-      (rows .first) (rows .rest) (rows .here .state) (rows .reads-first) (rows .reads-rest) ends (lineWith l (w .ends)) c (new-line ∙ u)
+      (rows .first) (rows .rest) (rows .here .state) (rows .reads-first) (rows .reads-rest) ends (lineWith l (w .here .ends)) c (new-line ∙ u)
       ∙ rw n (span-rows c (rerunWith (rows .first) (rows .here) (rows .rest) k by-rows l c) refl)
 
   pub edit-is-reading : runOf (linesOf (edited w l)) ≡ withSpan rs k (editRows (allHold rs) k l)

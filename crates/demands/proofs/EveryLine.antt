@@ -13,48 +13,41 @@ use Rattle.rules.specs.Lines.{LF, Line, emptyLine, linesOf, endsInCR, textOf, N
 use Rattle.rules.specs.Spelling.{LineEnd, lf, crlf}
 use Rattle.rules.specs.Reading.{Rows, fileOf}
 use Rattle.rules.specs.Editing.{noLineEnd}
-use Rattle.laws.proofs.Lines.{ends-cr, endedLine, crOf, lineWith, lf-line, ended, last, FirstOf, first-of, first-line, no-cr-end, joinOf, join-lines}
+use Rattle.laws.proofs.Lines.{ends-cr, endedLine, crOf, lineWith, ended, last, FirstOf, first-of, first-line, no-cr-end, joinOf, join-lines}
 use Rattle.answers.proofs.AcceptedFile.{file-accepts, file-ended}
-use Rattle.demands.specs.EditedFile.{LineOf, edited}
-use Rattle.demands.proofs.EditedLines.{lines-old, lines-set}
+use Rattle.demands.specs.EditedFile.{none, one-more, LineOf, edited}
+use Rattle.demands.proofs.EditedLines.{line-number, lines-old, lines-set}
 
 -- ---- line k
 
 -- the first line, whose bytes are b
 module _ (bs b rest : List ℕ) (p : bs ≡ b ++ (LF ∷ rest)) (h : NoLF b) where
   first : LineOf bs 1
-  unfolding linesOf
-  first =
-      let w = first-line bs b rest p h in
-      record {
-        before = [];
-        line = textOf b;
-        end = w .end;
-        after = rest;
-        parts = w .parts;
-        whole-lines = tt;
-        number = refl;
-        one-line = w .one-line;
-        ends = w .ends;
-        no-cr-left = λ e. no-cr-end (textOf b) (w .no-cr-left e);
-      }
+  first = record {
+    before = [];
+    from = bs;
+    parts = refl;
+    lines-before = 0;
+    whole-lines = none;
+    number = refl;
+    line = textOf b;
+    after = rest;
+    here = first-line bs b rest p h;
+  }
 
   -- a line of the rest is a line of all
   later : {k : ℕ} → LineOf rest k → LineOf bs (suc k)
-  later w =
-      let d : linesOf (b ++ (LF ∷ w .before)) ≡ endedLine b ∷ linesOf (w .before) = lf-line b (w .before) h in
-      record {
-        before = b ++ (LF ∷ w .before);
-        line = w .line;
-        end = w .end;
-        after = w .after;
-        parts = p ∙ ap (λ (z : List ℕ). b ++ (LF ∷ z)) (w .parts) ∙ sym (append-assoc b (LF ∷ w .before) (w .line ++ (w .end ++ w .after)));
-        whole-lines = rw d (refl, w .whole-lines);
-        number = omega (arith, w .number, ap length d);
-        one-line = w .one-line;
-        ends = w .ends;
-        no-cr-left = w .no-cr-left;
-      }
+  later w = record {
+    before = b ++ (LF ∷ w .before);
+    from = w .from;
+    parts = p ∙ ap (λ (z : List ℕ). b ++ (LF ∷ z)) (w .parts) ∙ sym (append-assoc b (LF ∷ w .before) (w .from));
+    lines-before = suc (w .lines-before);
+    whole-lines = one-more (first-line (b ++ (LF ∷ w .before)) b (w .before) refl h) (w .whole-lines);
+    number = ap suc (w .number);
+    line = w .line;
+    after = w .after;
+    here = w .here;
+  }
 
 -- among lines that are all ended
 line-in : (k : ℕ) (bs : List ℕ) (ls : List Line) → FirstOf bs ls → AllEnded ls → k < length ls
@@ -84,15 +77,15 @@ same-end a b lf crlf f g h = absurd (false≢true (sym (f refl) ∙ ap endsInCR 
 same-end a b crlf lf f g h = absurd (false≢true (sym (g refl) ∙ ap endsInCR (sym (append-nil b) ∙ sym h) ∙ ends-cr a))
 
 module _ {bs : List ℕ} {k : ℕ} where
-  at-line : (w : LineOf bs k) → getD (linesOf bs) (k - 1) emptyLine ≡ lineWith (w .line) (w .ends)
+  at-line : (w : LineOf bs k) → getD (linesOf bs) (k - 1) emptyLine ≡ lineWith (w .line) (w .here .ends)
   at-line w =
-      let n : length (linesOf (w .before)) ≡ k - 1 = omega (arith, w .number) in
-      rw (lines-old w) (getD-at (linesOf (w .before)) (lineWith (w .line) (w .ends)) (linesOf (w .after)) emptyLine (k - 1) n)
+      let n : length (linesOf (w .before)) ≡ k - 1 = omega (arith, line-number w) in
+      rw (lines-old w) (getD-at (linesOf (w .before)) (lineWith (w .line) (w .here .ends)) (linesOf (w .after)) emptyLine (k - 1) n)
 
   pub one-edited : (v w : LineOf bs k) (l : List ℕ) → noLineEnd l ≡ true → edited v l ≡ edited w l
   one-edited v w l h =
-      let c : crOf (v .ends) ≡ crOf (w .ends)
-      = same-end (v .line) (w .line) (v .ends) (w .ends) (v .no-cr-left) (w .no-cr-left) (ap (λ (z : Line). z .bytes) (sym (at-line v) ∙ at-line w)) in
+      let c : crOf (v .here .ends) ≡ crOf (w .here .ends)
+      = same-end (v .line) (w .line) (v .here .ends) (w .here .ends) (λ e. no-cr-end (v .line) (v .here .no-cr-left e)) (λ e. no-cr-end (w .line) (w .here .no-cr-left e)) (ap (λ (z : Line). z .bytes) (sym (at-line v) ∙ at-line w)) in
       let d : linesOf (edited v l) ≡ linesOf (edited w l)
       = lines-set v l h ∙ ap (λ (z : List ℕ). set (linesOf bs) (k - 1) (endedLine (l ++ z))) c ∙ sym (lines-set w l h) in
       sym (join-lines (edited v l)) ∙ ap joinOf d ∙ join-lines (edited w l)

@@ -214,6 +214,13 @@ no-cr-end l h = by (endsInCR l) refl
     by true e = absurd (h (textOf l) (cr-last l e))
     by false e = e
 
+module _ {bs l rest : List ℕ} (w : FirstLine bs l rest) where
+  pub first-falls : linesOf bs ≡ lineWith l (w .ends) ∷ linesOf rest
+  first-falls = ap linesOf (w .parts) ∙ end-line l (w .ends) rest (w .one-line)
+
+  pub first-text : textOf (lineWith l (w .ends) .bytes) ≡ l
+  first-text = end-text l (w .ends) (λ e. no-cr-end l (w .no-cr-left e))
+
 -- ---- lines, put together again
 
 abbrev pub joinOf : List Line → List ℕ

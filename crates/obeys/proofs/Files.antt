@@ -26,7 +26,7 @@ use Rattle.rules.specs.Spelling.{SpellsLine, FirstLine, SpellsFile, empty}
 use Rattle.rules.specs.Spelling as S
 use Rattle.rules.specs.Reading.{Rows, commandIn, runFrom, runOf, fileOf}
 use Rattle.rules.specs.Obeys.{Takes, ReadingOf, Obeys}
-use Rattle.laws.proofs.Lines.{no-byte-rest, lineWith, end-line, end-text, no-cr-end, lines-append, First, ended, last, FirstOf, first-of, first-line, joinOf, join-lines}
+use Rattle.laws.proofs.Lines.{no-byte-rest, lineWith, lines-append, First, ended, last, FirstOf, first-of, first-line, first-falls, first-text, joinOf, join-lines}
 use Rattle.obeys.specs.Faults.{Untaken, Fault, missing, too-many, not-ended, unread, untaken, Faulty, too-large, at-line}
 use Rattle.obeys.proofs.Split as Split
 use Rattle.obeys.proofs.Steps.{step-iff, refused-iff}
@@ -185,13 +185,6 @@ module _ (i : ℕ) (p : State) (bs : List ℕ) where
   stuck-bytes h (no-command f) = line-bytes h f
   stuck-bytes h (not-here r u) = untaken (r .counted) (ended-line h (r .ends) .1) (r .spelling) u
 
-  module _ {l rest : List ℕ} (w : FirstLine bs l rest) where
-    line-is : linesOf bs ≡ lineWith l (w .ends) ∷ linesOf rest
-    line-is = ap linesOf (w .parts) ∙ end-line l (w .ends) rest (w .one-line)
-
-    text-is : textOf (lineWith l (w .ends) .bytes) ≡ l
-    text-is = end-text l (w .ends) (λ e. no-cr-end l (w .no-cr-left e))
-
   -- the bytes' first line, where there is one
   with-first : {e : Refusal} → (bs ≡ [] → ⊥) → ((l : Line) (ls : List Line) → First bs l ls → LineFault i l e) → Stuck i p (linesOf bs) e
   with-first {e} n f = by (linesOf bs) (first-of bs)
@@ -210,9 +203,9 @@ module _ (i : ℕ) (p : State) (bs : List ℕ) where
       unlined {l} (ended rest t q g r) f = absurd (no-byte-rest LF (l .bytes) (LF ∷ rest) (subst NoLF q f) .0 refl)
       unlined (last t m f) g = t
   bytes-stuck (unread {l = l} {e = e} n w r) =
-      rw (line-is w) (no-command {l = lineWith l (w .ends)} (Split.unread {e = e} n refl (rw (text-is w) r)))
+      rw (first-falls w) (no-command {l = lineWith l (w .ends)} (Split.unread {e = e} n refl (rw (first-text w) r)))
   bytes-stuck (untaken {l = l} {c = c} n w s u) =
-      rw (line-is w) (not-here {l = lineWith l (w .ends)} {c = c} (record { counted = n; ends = refl; spelling = rw (text-is w) s }) u)
+      rw (first-falls w) (not-here {l = lineWith l (w .ends)} {c = c} (record { counted = n; ends = refl; spelling = rw (first-text w) s }) u)
 
 -- ---- a file
 
