@@ -78,6 +78,17 @@ mistake 'T00 selected' 'need(tool >= 1, refuse::RANGE)?;
         [tens @ b'\''0'\''..=b'\''9'\'', ones @ b'\''0'\''..=b'\''9'\'', b'\''C'\''' 'Ok(Command::Select { tool: tool.max(1) })
         }
         [tens @ b'\''0'\''..=b'\''9'\'', ones @ b'\''0'\''..=b'\''9'\'', b'\''C'\'''
+mistake 'one digit declared by 2021' ' if revision == Revision::Rev2019 => {' ' => {'
+mistake 'one digit not declared by 2019' ' if revision == Revision::Rev2019 => {' ' if false => {'
+mistake 'T0C1 is no form by 2019' 'declaration(value(ones), rest)' \
+    '{ need(ones != b'\''0'\'', refuse::FORM)?; declaration(value(ones), rest) }'
+mistake 'T0C is out of range by 2019' 'declaration(value(ones), rest)' \
+    '{ need(ones != b'\''0'\'', refuse::RANGE)?; declaration(value(ones), rest) }'
+mistake 'revision asked in a selection' '[ones @ b'\''0'\''..=b'\''9'\''] => {' \
+    '[ones @ b'\''0'\''..=b'\''9'\''] if revision == Revision::Rev2019 => {'
+mistake 'read by 2021 alone' 'Command::of_line(text, revision).map_err(|number|' 'Command::of_line(text, Revision::Rev2021).map_err(|number|'
+mistake 'edit by 2021 alone' 'Command::of_line(text, revision).map_err(refused)?' 'Command::of_line(text, Revision::Rev2021).map_err(refused)?'
+mistake 'edit by 2019 alone' 'Command::of_line(text, revision).map_err(refused)?' 'Command::of_line(text, Revision::Rev2019).map_err(refused)?'
 mistake 'second semicolon read' 'need(!rest.contains(&b'\'';'\''), refuse::FORM)?;' ''
 mistake 'lower-case M48' 'b"M48" => Ok(Command::Start),' 'b"M48" | b"m48" => Ok(Command::Start),'
 mistake 'METRIC as INCH' 'b"METRIC" => Ok(Command::Metric)' 'b"METRIC" => Ok(Command::Inch)'
@@ -105,8 +116,8 @@ mistake 'too many lines known only at the LF' 'need(line as usize <= MAX_LINES, 
         need(line as usize <= MAX_LINES, (refuse::LINE_COUNT, line))?;'
 mistake '14 at the last line' '(refuse::UNFINISHED, line + 1)' '(refuse::UNFINISHED, line)'
 mistake 'end not asked for' 'need(state.phase == phase::ENDED, (refuse::UNFINISHED, line + 1))?;' ''
-mistake 'short table found out first' 'let rows = rows_of(file)?;' \
-    'need(!table.is_empty(), (refuse::TOO_SHORT, 0))?; let rows = rows_of(file)?;'
+mistake 'short table found out first' 'let rows = rows_of(file, revision)?;' \
+    'need(!table.is_empty(), (refuse::TOO_SHORT, 0))?; let rows = rows_of(file, revision)?;'
 mistake 'rows written before the table is found short' 'let lent = table.get_mut(..rows.len())' \
     'if let (Some(first), false) = (table.first_mut(), rows.is_empty()) { *first = rows[0]; }
     let lent = table.get_mut(..rows.len())'
@@ -209,17 +220,17 @@ mistake 'line cut to 32 bits' 'need((1..=n).contains(&line), (refuse::LINE_NUMBE
 # Edits.
 mistake 'CR in the new line' "b'\\n' | b'\\r'" "b'\\n'"
 mistake '17 after the rows' 'need(!text.iter().any(ends_line), (refuse::LINE_END, 0))?;
-
-    let before = state_before(rows, line)?;' 'let before = state_before(rows, line)?;
-    need(!text.iter().any(ends_line), (refuse::LINE_END, 0))?;'
+    edit_rows' 'state_before(rows, line)?;
+    need(!text.iter().any(ends_line), (refuse::LINE_END, 0))?;
+    edit_rows'
 mistake '17 before 16' 'need((1..=n).contains(&line), (refuse::LINE_NUMBER, 0))?;
     let ends_line = |byte: &u8| matches!(byte, b'\''\n'\'' | b'\''\r'\'');' 'let ends_line = |byte: &u8| matches!(byte, b'\''\n'\'' | b'\''\r'\'');
     need(!text.iter().any(ends_line), (refuse::LINE_END, 0))?;
     need((1..=n).contains(&line), (refuse::LINE_NUMBER, 0))?;'
 mistake 'edited row tested after the new line' 'let (_, mut old) = row_at(rows, line)?;
     let refused = |number| (number, line as u32);
-    let command = Command::of_line(text).map_err(refused)?;' 'let refused = |number| (number, line as u32);
-    let command = Command::of_line(text).map_err(refused)?;
+    let command = Command::of_line(text, revision).map_err(refused)?;' 'let refused = |number| (number, line as u32);
+    let command = Command::of_line(text, revision).map_err(refused)?;
     let (_, mut old) = row_at(rows, line)?;'
 mistake 'stops at a command of the same kind' 'let mut meeting = line;' \
     'let mut meeting = line; if rows[(line - 1) * ROW] == command.numbers()[0] { old = state; }'

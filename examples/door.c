@@ -38,7 +38,7 @@ int main(int argc, char **argv)
         return 2;
     }
     size_t bytes = fread(file, 1, sizeof file, stdin);
-    uint64_t answer = xnc_read(file, bytes, old, MOST_LINES * ROW);
+    uint64_t answer = xnc_read(file, bytes, XNC_REVISION_2021, old, MOST_LINES * ROW);
     if (number(answer) != 0) {
         return refused("read", answer);
     }
@@ -47,7 +47,7 @@ int main(int argc, char **argv)
 
     size_t line = strtoul(argv[1], NULL, 10);
     memcpy(edited, old, sizeof old);
-    answer = xnc_edit(edited, MOST_LINES * ROW, n, line, (const uint8_t *)argv[2], strlen(argv[2]));
+    answer = xnc_edit(edited, MOST_LINES * ROW, n, line, (const uint8_t *)argv[2], strlen(argv[2]), XNC_REVISION_2021);
     if (number(answer) != 0) {
         return refused("edit", answer);
     }

@@ -16,12 +16,16 @@
 extern "C" {
 #endif
 
+/* The revision of XNC by whose rule lines are read. 2019 also takes a declaration with one digit, as T1C0.6; all else is the same by both.
+ * Any other number means 2021. A table has no revision: it may be edited by either. */
+enum { XNC_REVISION_2019 = 2019, XNC_REVISION_2021 = 2021 };
+
 /* Reads a file: the count is its number of lines n, and the first 15 n numbers of the table are its rows. */
-uint64_t xnc_read(const uint8_t *file, size_t file_len, int32_t *table, size_t table_len);
+uint64_t xnc_read(const uint8_t *file, size_t file_len, uint32_t revision, int32_t *table, size_t table_len);
 
 /* Line `line` (from 1) of a table of n rows gets new bytes, without a line end. The count is the meeting line: the first, from the edited
  * one on, after which old and new states agree, or n. Only rows from the edited line to it change. */
-uint64_t xnc_edit(int32_t *table, size_t table_len, size_t n, size_t line, const uint8_t *text, size_t text_len);
+uint64_t xnc_edit(int32_t *table, size_t table_len, size_t n, size_t line, const uint8_t *text, size_t text_len, uint32_t revision);
 
 /* The hole of a line. The count is 1, with seven numbers put into `hole` (kind, tool, start x, start y, end x, end y, radius), or 0 where the
  * line makes none, with `hole` unchanged. A `hole` block under seven numbers is refused 15 at line 0, after all other refusals. */

@@ -4,6 +4,7 @@
 //! What is legal where is worked out here a third time, in the loosest way
 //! that serves (`Model`), so that a generated file must be accepted by both.
 
+use crate::library::Revision;
 use crate::random::Random;
 
 pub const ROW: usize = 15;
@@ -96,6 +97,21 @@ fn select(tool: i32, random: &mut Random) -> String {
     }
 }
 
+/// A declaration by a revision: 2019 also has one digit for a tool under ten.
+fn declare(tool: i32, diameter: i32, revision: Revision, random: &mut Random) -> String {
+    let diameter = spell(diameter, false, random);
+    if revision == Revision::Rev2019 && tool < 10 && random.one_in(2) {
+        format!("T{tool}C{diameter}")
+    } else {
+        format!("T{tool:02}C{diameter}")
+    }
+}
+
+/// One revision or the other.
+pub fn revision(random: &mut Random) -> Revision {
+    *random.pick(&[Revision::Rev2019, Revision::Rev2021])
+}
+
 fn tool(random: &mut Random) -> i32 {
     match random.below(3) {
         0 => *random.pick(&[1, 9, 10, 24, 25, 26, 49, 50, 51, 74, 75, 76, 98, 99]),
@@ -132,7 +148,8 @@ pub fn any_command(random: &mut Random) -> String {
         3 => "INCH".into(),
         4 => {
             let tool = tool(random);
-            format!("T{tool:02}C{}", spell(radius, false, random))
+            let revision = revision(random);
+            declare(tool, radius, revision, random)
         }
         5 => "%".into(),
         6 | 7 => "G05".into(),
@@ -152,12 +169,13 @@ pub fn any_command(random: &mut Random) -> String {
 }
 
 /// Lines that are wrong, or right only just, parted by `|`.
-const ODD_LINES: [&str; 9] = [
+const ODD_LINES: [&str; 10] = [
     "| |M|M4|M47|M480|m48|M48 | M48|METRI|METRIC,LZ|metric|INC|INCHES|%%|% |G|G0|G5|G05 ",
     "G05X1Y1|G06|G00|G00X|G00X1|G00X1Y|G00Y1X1|G00X1Y1A1|G0X1Y1|G04X1Y1|G01|G01X1Y1A1",
     "G02X1Y1|G02X1Y1A|G02X1Y1A0|G02X1Y1A-1|G02X1Y1A+1|G02X1Y1A1000|G02X1Y1A.0000001",
     "G02X1Y1A1.|G03X1Y1A1X1|G03X1Y1A1 |G03X1Y1A0.0|G03X1000Y1A|G03X1Y1Aq|T|TX|T0|T00",
     "T000|T1 |T001|T100|T1C0.6|T0C1|T00C1|T00C|T00C0|T01C|T01C0|T01C.|T01C.0|T01C-1",
+    "T0C|T0C0|T0C1000|T0Cq|T001C1|T000C1|T9C1000|T9C0.600|T9C.|T9C|T9C-1|T9C+1|T9C1C1|T9C1 ",
     "T01C+1|T01C1000|T01C999.999999|T01C0.0000001|T01C0.000001|T01C1C1|T100C1|T99C1|t1",
     "T1;|TC1|T-1|X|Y|XY|X1|X1Y|XY1|X.Y.|X1Y.|X+Y-|X--1Y1|X+-1Y1|X1..Y1|X1.2.3Y1|X1000Y0",
     "X0Y-1000|X1000Yq|X999.9999990Y0|X1.0000000Y1|X-0Y+0|X5.Y.5|X1Y1X1Y1|X 1Y1|X1,Y1",
@@ -201,7 +219,8 @@ pub fn all_texts(alphabet: &str, length: usize) -> Vec<String> {
 
 // ------------------------------------------------------------------- model
 
-/// As much of the state as is needed to choose a command that is allowed.
+/// As much of the state as is needed to choose a command that is allowed, and
+/// the revision that allows it.
 #[derive(Clone, Debug)]
 pub struct Model {
     phase: i32,
@@ -210,15 +229,16 @@ pub struct Model {
     x: i32,
     y: i32,
     declared: Vec<i32>,
+    revision: Revision,
 }
 
 impl Model {
-    pub fn start() -> Model {
-        Model { phase: 0, motion: 0, tool: 0, x: 0, y: 0, declared: Vec::new() }
+    pub fn start(revision: Revision) -> Model {
+        Model { phase: 0, motion: 0, tool: 0, x: 0, y: 0, declared: Vec::new(), revision }
     }
 
     /// What a row says of the state after it.
-    pub fn after_row(row: &[i32]) -> Model {
+    pub fn after_row(row: &[i32], revision: Revision) -> Model {
         let has = |tool: &i32| row[11 + *tool as usize / 25] >> (tool % 25) & 1 == 1;
         Model {
             phase: row[5],
@@ -227,6 +247,7 @@ impl Model {
             x: row[9],
             y: row[10],
             declared: (1..=99).filter(has).collect(),
+            revision,
         }
     }
 
@@ -294,7 +315,7 @@ impl Model {
                 }
                 self.declared.push(tool);
                 let diameter = size(random);
-                format!("T{tool:02}C{}", spell(diameter, false, random))
+                declare(tool, diameter, self.revision, random)
             }
             3 if self.motion == 3 => self.rout(random),
             3 => self.move_or_hit(random),
@@ -388,10 +409,12 @@ pub fn text_for(before: &Model, random: &mut Random) -> Vec<u8> {
 
 // ------------------------------------------------------------------- files
 
+/// A file's lines and their ends, and the revision it is made for.
 #[derive(Clone)]
 pub struct File {
     pub lines: Vec<Vec<u8>>,
     pub ends: Vec<&'static [u8]>,
+    pub revision: Revision,
 }
 
 impl File {
@@ -410,10 +433,11 @@ impl File {
     }
 }
 
-/// A file that must be accepted, of some `lines` lines.
+/// A file that must be accepted by its revision, of some `lines` lines.
 pub fn valid_file(lines: usize, random: &mut Random) -> File {
     let mut texts: Vec<String> = Vec::new();
-    let mut model = Model::start();
+    let revision = revision(random);
+    let mut model = Model::start(revision);
     let header = match random.below(20) {
         0 => 0,
         1 => 120,
@@ -430,7 +454,7 @@ pub fn valid_file(lines: usize, random: &mut Random) -> File {
         for tool in 1..=99 {
             if !model.declared.contains(&tool) {
                 model.declared.push(tool);
-                texts.push(format!("T{tool:02}C{}", spell(tool * 10_001, false, random)));
+                texts.push(declare(tool, tool * 10_001, revision, random));
             }
         }
     }
@@ -445,7 +469,7 @@ pub fn valid_file(lines: usize, random: &mut Random) -> File {
     texts.push("M30".into());
 
     let ends = line_ends(texts.len(), random);
-    File { lines: texts.into_iter().map(String::into_bytes).collect(), ends }
+    File { lines: texts.into_iter().map(String::into_bytes).collect(), ends, revision }
 }
 
 /// Ends for so many lines: all with a CR, some, or none.
@@ -619,7 +643,7 @@ pub fn damaged(file: &File, random: &mut Random) -> Vec<u8> {
 /// An impossible arc put in front of an `M16`.
 fn refuse_an_arc(file: &mut File, random: &mut Random) {
     if let Some(at) = file.lines.iter().position(|line| line == b"M16") {
-        let mut model = Model::start();
+        let mut model = Model::start(file.revision);
         (model.x, model.y) = (coordinate(random), coordinate(random));
         let from = format!("G01{}", point(model.x, model.y, random));
         file.insert(at, model.refused_arc(random).into_bytes());

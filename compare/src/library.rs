@@ -5,10 +5,12 @@
 /// `(0, count)` on success, `(number, line)` on refusal.
 pub type Answer = (u32, u32);
 
+pub use plain::Revision;
+
 pub trait Library {
     const NAME: &'static str;
-    fn read(file: &[u8], table: &mut [i32]) -> Answer;
-    fn edit(table: &mut [i32], n: usize, line: usize, text: &[u8]) -> Answer;
+    fn read(file: &[u8], revision: Revision, table: &mut [i32]) -> Answer;
+    fn edit(table: &mut [i32], n: usize, line: usize, text: &[u8], revision: Revision) -> Answer;
     fn hole(table: &[i32], n: usize, line: usize, hole: &mut [i32]) -> Answer;
     fn write(table: &[i32], n: usize, text: &mut [u8]) -> Answer;
 }
@@ -17,11 +19,11 @@ pub struct Plain;
 
 impl Library for Plain {
     const NAME: &'static str = "plain";
-    fn read(file: &[u8], table: &mut [i32]) -> Answer {
-        plain::read(file, table)
+    fn read(file: &[u8], revision: Revision, table: &mut [i32]) -> Answer {
+        plain::read(file, revision, table)
     }
-    fn edit(table: &mut [i32], n: usize, line: usize, text: &[u8]) -> Answer {
-        plain::edit(table, n, line, text)
+    fn edit(table: &mut [i32], n: usize, line: usize, text: &[u8], revision: Revision) -> Answer {
+        plain::edit(table, n, line, text, revision)
     }
     fn hole(table: &[i32], n: usize, line: usize, hole: &mut [i32]) -> Answer {
         plain::hole(table, n, line, hole)
@@ -37,11 +39,11 @@ pub struct Xnc;
 #[cfg(not(selftest))]
 impl Library for Xnc {
     const NAME: &'static str = "xnc";
-    fn read(file: &[u8], table: &mut [i32]) -> Answer {
-        pair(xnc::read(file, table))
+    fn read(file: &[u8], revision: Revision, table: &mut [i32]) -> Answer {
+        pair(xnc::read(file, named(revision), table))
     }
-    fn edit(table: &mut [i32], n: usize, line: usize, text: &[u8]) -> Answer {
-        pair(xnc::edit(table, n, line, text))
+    fn edit(table: &mut [i32], n: usize, line: usize, text: &[u8], revision: Revision) -> Answer {
+        pair(xnc::edit(table, n, line, text, named(revision)))
     }
     fn hole(table: &[i32], n: usize, line: usize, hole: &mut [i32]) -> Answer {
         pair(xnc::hole(table, n, line, hole))
@@ -56,14 +58,31 @@ fn pair(answer: xnc::Answer) -> Answer {
     (answer.number, answer.value)
 }
 
+/// A revision as the implementation under test names it.
+#[cfg(not(selftest))]
+fn named(revision: Revision) -> xnc::Revision {
+    match revision {
+        Revision::Rev2019 => xnc::Revision::Rev2019,
+        Revision::Rev2021 => xnc::Revision::Rev2021,
+    }
+}
+
+#[cfg(selftest)]
+fn named(revision: Revision) -> subject::Revision {
+    match revision {
+        Revision::Rev2019 => subject::Revision::Rev2019,
+        Revision::Rev2021 => subject::Revision::Rev2021,
+    }
+}
+
 #[cfg(selftest)]
 impl Library for Xnc {
     const NAME: &'static str = "subject";
-    fn read(file: &[u8], table: &mut [i32]) -> Answer {
-        subject::read(file, table)
+    fn read(file: &[u8], revision: Revision, table: &mut [i32]) -> Answer {
+        subject::read(file, named(revision), table)
     }
-    fn edit(table: &mut [i32], n: usize, line: usize, text: &[u8]) -> Answer {
-        subject::edit(table, n, line, text)
+    fn edit(table: &mut [i32], n: usize, line: usize, text: &[u8], revision: Revision) -> Answer {
+        subject::edit(table, n, line, text, named(revision))
     }
     fn hole(table: &[i32], n: usize, line: usize, hole: &mut [i32]) -> Answer {
         subject::hole(table, n, line, hole)

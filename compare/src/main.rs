@@ -10,7 +10,8 @@
 //! fixed seed unless one is given. Each compares the answer and everything
 //! lent, with numbers or bytes before and behind it. What an edit and a
 //! writing promise is held against fresh readings, in both implementations.
-//! The other two compare what a program prints for COUNT files, or edits.
+//! The other two compare what a program prints for COUNT files, or edits. Each
+//! file and each edit is by one of the two revisions.
 //!
 //! It fails when a pair differs, when a promise is broken, or when a refusal
 //! that a function can give never came up.
@@ -20,7 +21,7 @@ mod library;
 mod random;
 
 use inputs::{File, Model, MAX_FILE, MAX_LINES, ROW};
-use library::{Answer, Library, Plain, Xnc};
+use library::{Answer, Library, Plain, Revision, Revision::*, Xnc};
 use random::Random;
 use std::fmt::Write as _;
 use std::io::Write as _;
@@ -31,19 +32,27 @@ const COUNT: u64 = 400_000;
 const SEED: u64 = 20_211_101;
 const SHOWN: u64 = 5;
 
-const NAMES: [&str; 4] = ["read", "edit", "hole", "write"];
-const READ: usize = 0;
-const EDIT: usize = 1;
-const HOLE: usize = 2;
-const WRITE: usize = 3;
+const BOTH: [Revision; 2] = [Rev2019, Rev2021];
+
+const NAMES: [&str; 6] = ["read 2019", "read 2021", "edit 2019", "edit 2021", "hole", "write"];
+const READ: [usize; 2] = [0, 1];
+const EDIT: [usize; 2] = [2, 3];
+const HOLE: usize = 4;
+const WRITE: usize = 5;
 
 /// The numbers that each function can give, 0 for success.
-const CAN_GIVE: [&[usize]; 4] = [
-    &[0, 1, 2, 3, 4, 5, 6, 7, 8, 9, 10, 11, 12, 13, 14, 15],
-    &[0, 4, 5, 6, 7, 8, 9, 10, 11, 12, 13, 14, 16, 17, 18],
-    &[0, 15, 16, 18],
-    &[0, 15, 18],
-];
+const READ_GIVES: &[usize] = &[0, 1, 2, 3, 4, 5, 6, 7, 8, 9, 10, 11, 12, 13, 14, 15];
+const EDIT_GIVES: &[usize] = &[0, 4, 5, 6, 7, 8, 9, 10, 11, 12, 13, 14, 16, 17, 18];
+const CAN_GIVE: [&[usize]; 6] =
+    [READ_GIVES, READ_GIVES, EDIT_GIVES, EDIT_GIVES, &[0, 15, 16, 18], &[0, 15, 18]];
+
+/// One of the two, as the revision has it.
+fn by<T>(revision: Revision, [old, new]: [T; 2]) -> T {
+    match revision {
+        Rev2019 => old,
+        Rev2021 => new,
+    }
+}
 
 /// A copy of what is lent, with the same filling before and behind it.
 #[derive(Clone, PartialEq)]
@@ -81,7 +90,7 @@ impl<T: Copy + PartialEq> Lent<T> {
 
 struct Comparison {
     random: Random,
-    came_up: [[u64; 19]; 4],
+    came_up: [[u64; 19]; 6],
     holes: u64,
     compared: u64,
     promises: u64,
@@ -92,7 +101,7 @@ impl Comparison {
     fn new(seed: u64) -> Comparison {
         Comparison {
             random: Random::new(seed),
-            came_up: [[0; 19]; 4],
+            came_up: [[0; 19]; 6],
             holes: 0,
             compared: 0,
             promises: 0,
@@ -102,25 +111,36 @@ impl Comparison {
 
     // -------------------------------------------------------- single calls
 
-    fn read(&mut self, file: &[u8], table: &[i32]) -> (Answer, Vec<i32>) {
+    fn read(&mut self, file: &[u8], revision: Revision, table: &[i32]) -> (Answer, Vec<i32>) {
         let before = Lent::new(table, -7);
-        let pair = call(&before, |lent| Plain::read(file, lent), |lent| Xnc::read(file, lent));
+        let pair = call(
+            &before,
+            |lent| Plain::read(file, revision, lent),
+            |lent| Xnc::read(file, revision, lent),
+        );
         let span = |(_, count): Answer| 0..count as usize * ROW;
-        self.judge(READ, &before, &pair, span, || {
+        self.judge(by(revision, READ), &before, &pair, span, || {
             format!("file \"{}\"\n{} numbers lent", file.escape_ascii(), table.len())
         });
         (pair.expected, pair.ours.content().to_vec())
     }
 
-    fn edit(&mut self, table: &[i32], n: usize, line: usize, text: &[u8]) -> (Answer, Vec<i32>) {
+    fn edit(
+        &mut self,
+        table: &[i32],
+        n: usize,
+        line: usize,
+        text: &[u8],
+        revision: Revision,
+    ) -> (Answer, Vec<i32>) {
         let before = Lent::new(table, -7);
         let pair = call(
             &before,
-            |lent| Plain::edit(lent, n, line, text),
-            |lent| Xnc::edit(lent, n, line, text),
+            |lent| Plain::edit(lent, n, line, text, revision),
+            |lent| Xnc::edit(lent, n, line, text, revision),
         );
         let span = |(_, meeting): Answer| (line - 1) * ROW..meeting as usize * ROW;
-        self.judge(EDIT, &before, &pair, span, || {
+        self.judge(by(revision, EDIT), &before, &pair, span, || {
             format!("n {n}, line {line}, text \"{}\"\n{}", text.escape_ascii(), rows(table))
         });
         (pair.expected, pair.ours.content().to_vec())
@@ -215,20 +235,33 @@ impl Comparison {
         self.promise(Xnc::NAME, edit_is_reading::<Xnc>(file, line, text));
     }
 
+    /// What 2021 accepts, 2019 accepts as the same table.
+    fn older(&mut self, file: &[u8]) {
+        self.promise(Plain::NAME, older_accepts::<Plain>(file));
+        self.promise(Xnc::NAME, older_accepts::<Xnc>(file));
+    }
+
     // ------------------------------------------------------- whole batches
+
+    fn revision(&mut self) -> Revision {
+        inputs::revision(&mut self.random)
+    }
 
     /// Numbers to lend: noise, so that nothing is right by chance.
     fn noise(&mut self, length: usize) -> Vec<i32> {
         (0..length).map(|_| self.random.next() as i32).collect()
     }
 
-    /// Reads a file that must be accepted; its table without what is beyond.
+    /// Reads a file that must be accepted by its revision, and by the other one
+    /// too; its table without what is beyond.
     fn read_valid(&mut self, file: &File) -> Vec<i32> {
         let n = file.lines.len();
         let bytes = file.bytes();
         let spare = self.random.below(20);
         let lent = self.noise(n * ROW + spare);
-        let (answer, mut table) = self.read(&bytes, &lent);
+        self.read(&bytes, by(file.revision, [Rev2021, Rev2019]), &lent);
+        self.older(&bytes);
+        let (answer, mut table) = self.read(&bytes, file.revision, &lent);
         if answer != (0, n as u32) {
             self.differs(&format!("valid file answered {answer:?}: \"{}\"", bytes.escape_ascii()));
         }
@@ -246,7 +279,11 @@ impl Comparison {
                 _ => (n + 4) * ROW,
             };
             let lent = self.noise(length);
-            self.read(&bytes, &lent);
+            let revision = self.revision();
+            self.read(&bytes, revision, &lent);
+            if self.random.one_in(8) {
+                self.older(&bytes);
+            }
         }
     }
 
@@ -255,7 +292,7 @@ impl Comparison {
         let bytes = file.bytes();
         for length in [n * ROW - 1, n * ROW, n * ROW - ROW, self.random.below(n * ROW), 0] {
             let lent = self.noise(length);
-            self.read(&bytes, &lent);
+            self.read(&bytes, file.revision, &lent);
         }
     }
 
@@ -272,9 +309,11 @@ impl Comparison {
         }
         self.promise(Plain::NAME, written_reads_back::<Plain>(table, n));
         self.promise(Xnc::NAME, written_reads_back::<Xnc>(table, n));
-        // What is written reads alike in both.
+        // What is written reads alike in both, by each revision.
         let lent = self.noise(n * ROW);
-        self.read(&text[..exact], &lent);
+        for revision in BOTH {
+            self.read(&text[..exact], revision, &lent);
+        }
     }
 
     fn holes(&mut self, table: &[i32], n: usize, lines: Range<usize>) {
@@ -284,11 +323,13 @@ impl Comparison {
         }
     }
 
-    /// Edits of a table that was read, with what demand 3 asks of them.
+    /// Edits of a table that was read, by its file's revision or the other, with
+    /// what demand 3 asks of them for the file's own.
     fn edits(&mut self, file: &File, table: &[i32], line: usize, times: usize) {
         let n = file.lines.len();
-        let before = model_before(table, line);
         for _ in 0..times {
+            let revision = self.revision();
+            let before = model_before(table, line, revision);
             let text = match self.random.below(6) {
                 0 => self.random.pick(&file.lines).clone(),
                 1 => {
@@ -301,7 +342,7 @@ impl Comparison {
             let spare = self.random.below(20);
             let mut lent = table.to_vec();
             lent.extend(self.noise(spare));
-            self.edit(&lent, n, line, &text);
+            self.edit(&lent, n, line, &text, revision);
             if self.random.one_in(2) {
                 self.demand_3(file, line, &text);
             }
@@ -313,8 +354,10 @@ impl Comparison {
         let mut table = table.to_vec();
         for _ in 0..times {
             let line = 1 + self.random.below(n);
-            let text = inputs::text_for(&model_before(&table, line), &mut self.random);
-            table = self.edit(&table, n, line, &text).1;
+            let revision = self.revision();
+            let before = model_before(&table, line, revision);
+            let text = inputs::text_for(&before, &mut self.random);
+            table = self.edit(&table, n, line, &text, revision).1;
         }
         self.writes(&table, n);
         self.holes(&table, n, 1..n + 1);
@@ -337,7 +380,8 @@ impl Comparison {
             let mut lent = table.to_vec();
             lent.resize(length, 0);
             let lent = &lent;
-            self.edit(lent, n, line, text);
+            let revision = self.revision();
+            self.edit(lent, n, line, text, revision);
             let length = *self.random.pick(&[0, 6, 7, 8]);
             self.hole(lent, n, line, length);
             let room = *self.random.pick(&[0, 10, rows * 39]);
@@ -393,8 +437,10 @@ impl Comparison {
         let first = line.saturating_sub(2).max(1);
         let last = (line + 2).min(n);
         for at in first..=last {
-            let text = inputs::text_for(&model_before(table, at), &mut self.random);
-            self.edit(table, n, at, &text);
+            let revision = self.revision();
+            let before = model_before(table, at, revision);
+            let text = inputs::text_for(&before, &mut self.random);
+            self.edit(table, n, at, &text, revision);
         }
         self.holes(table, n, first..last + 1);
     }
@@ -456,49 +502,50 @@ impl Comparison {
         }
         self.read_damaged(&file, 4);
         let lent = self.noise(MAX_LINES * ROW);
-        self.read(&file.bytes(), &lent);
+        self.read(&file.bytes(), file.revision, &lent);
         let mut bytes = inputs::file_of_bytes(MAX_FILE - self.random.below(3));
         inputs::change_bytes(&mut bytes, &mut self.random);
-        self.read(&bytes, &lent);
+        let revision = self.revision();
+        self.read(&bytes, revision, &lent);
     }
 
-    /// The limits themselves.
-    fn limits(&mut self) {
+    /// The limits themselves, by a revision.
+    fn limits(&mut self, revision: Revision) {
         let lent = self.noise((MAX_LINES + 1) * ROW);
         for bytes in [MAX_FILE - 1, MAX_FILE, MAX_FILE + 1, MAX_FILE + 1_000] {
             let file = inputs::file_of_bytes(bytes);
             assert_eq!(file.len(), bytes);
-            let (answer, _) = self.read(&file, &lent);
+            let (answer, _) = self.read(&file, revision, &lent);
             assert_eq!(answer.0, u32::from(bytes > MAX_FILE));
-            self.read(&file[..bytes - 1], &lent);
+            self.read(&file[..bytes - 1], revision, &lent);
         }
-        self.read(&vec![b'\n'; MAX_FILE + 1], &lent);
-        self.read(&vec![b'x'; MAX_FILE], &lent);
+        self.read(&vec![b'\n'; MAX_FILE + 1], revision, &lent);
+        self.read(&vec![b'x'; MAX_FILE], revision, &lent);
         for lines in [MAX_LINES - 1, MAX_LINES, MAX_LINES + 1, MAX_LINES + 2] {
             let mut file = inputs::file_of_lines(lines, &mut self.random);
-            while file.bytes().len() > MAX_FILE {
+            while file.bytes().len() > MAX_FILE || file.revision != revision {
                 file = inputs::file_of_lines(lines, &mut self.random);
             }
             let mut bytes = file.bytes();
-            let (answer, _) = self.read(&bytes, &lent);
+            let (answer, _) = self.read(&bytes, revision, &lent);
             assert_eq!(answer.0, if lines > MAX_LINES { 2 } else { 0 });
             for more in [&b"\n"[..], b";\n", b"M30\n", b"x", b"\0", b"\r"] {
                 bytes.extend_from_slice(more);
-                self.read(&bytes, &lent);
+                self.read(&bytes, revision, &lent);
                 bytes.truncate(bytes.len() - more.len());
             }
             // The last line gone, or replaced by one that doesn't end the file.
-            self.read(&bytes[..bytes.len() - 4], &lent);
+            self.read(&bytes[..bytes.len() - 4], revision, &lent);
             let length = bytes.len() - 4;
             bytes.truncate(length);
             bytes.extend_from_slice(b";\n");
-            self.read(&bytes, &lent);
+            self.read(&bytes, revision, &lent);
         }
         for file in
             [&b""[..], b"\n", b"\r", b"\r\n", b"M48", b"M48\n", b"M48\r", b"M48\r\r\n", b"\0", b";"]
         {
-            self.read(file, &lent);
-            self.read(file, &[]);
+            self.read(file, revision, &lent);
+            self.read(file, revision, &[]);
         }
     }
 
@@ -510,7 +557,9 @@ impl Comparison {
              G03X6Y2A2\nM16\nM30",
         );
         let table = self.read_valid(&file);
-        self.edits_a_to_l(&file, &table);
+        for revision in BOTH {
+            self.edits_a_to_l(&File { revision, ..file.clone() }, &table);
+        }
         for line in 0..17 {
             for length in [0, 6, 7, 8] {
                 self.hole(&table, 15, line, length);
@@ -518,14 +567,17 @@ impl Comparison {
         }
         self.writes(&table, 15);
         for (line, text) in [(7, "T1\r"), (7, "T1\n"), (4, "T01C1"), (7, ";")] {
-            self.edit(&table, 15, line, text.as_bytes());
+            self.edit(&table, 15, line, text.as_bytes(), Rev2021);
         }
-        self.all_small_texts(&table);
+        for revision in BOTH {
+            self.all_small_texts(&table, revision);
+            self.all_tools(revision);
+        }
         self.all_edges(&table);
-        self.all_tools();
     }
 
-    /// The paper's edits of its file, and what it says of them.
+    /// The paper's edits of its file, and what it says of them: the same by each
+    /// revision.
     fn edits_a_to_l(&mut self, file: &File, table: &[i32]) {
         let cases: [(usize, &str, Answer); 12] = [
             (3, "T01C0.6", (0, 3)),
@@ -542,7 +594,7 @@ impl Comparison {
             (12, "G01X4Y0", (0, 12)),
         ];
         for (line, text, expected) in cases {
-            let (answer, _) = self.edit(table, 15, line, text.as_bytes());
+            let (answer, _) = self.edit(table, 15, line, text.as_bytes(), file.revision);
             if answer != expected {
                 self.differs(&format!("edit {line} {text} of the bench file answered {answer:?}"));
             }
@@ -551,17 +603,22 @@ impl Comparison {
     }
 
     /// Every short text, and every short spelling of each number, as an edit.
-    fn all_small_texts(&mut self, table: &[i32]) {
+    fn all_small_texts(&mut self, table: &[i32], revision: Revision) {
         for text in inputs::all_texts("019.-+XYTCM%; \r", 3) {
-            self.edit(table, 15, 8, text.as_bytes());
+            self.edit(table, 15, 8, text.as_bytes(), revision);
         }
         for number in inputs::all_texts("019.-+", 4) {
-            self.edit(table, 15, 3, format!("T01C{number}").as_bytes());
-            self.edit(table, 15, 3, format!("T{number}C1").as_bytes());
-            self.edit(table, 15, 7, format!("T{number}").as_bytes());
-            self.edit(table, 15, 8, format!("X{number}Y1").as_bytes());
-            self.edit(table, 15, 8, format!("X1Y{number}").as_bytes());
-            self.edit(table, 15, 13, format!("G02X5Y0A{number}").as_bytes());
+            let texts = [
+                (3, format!("T01C{number}")),
+                (3, format!("T{number}C1")),
+                (7, format!("T{number}")),
+                (8, format!("X{number}Y1")),
+                (8, format!("X1Y{number}")),
+                (13, format!("G02X5Y0A{number}")),
+            ];
+            for (line, text) in texts {
+                self.edit(table, 15, line, text.as_bytes(), revision);
+            }
         }
     }
 
@@ -573,7 +630,8 @@ impl Comparison {
             for edge in inputs::TABLE_EDGES {
                 table[at] = edge;
                 self.hole(&table, 15, line, 7);
-                self.edit(&table, 15, line, b";");
+                let revision = self.revision();
+                self.edit(&table, 15, line, b";", revision);
                 if at % ROW < 5 {
                     self.write(&table, 15, 0);
                 }
@@ -582,15 +640,18 @@ impl Comparison {
         }
     }
 
-    /// Every tool, declared and selected beside every other of a few.
-    fn all_tools(&mut self) {
+    /// Every tool, declared with one digit or two and selected beside every other
+    /// of a few.
+    fn all_tools(&mut self, revision: Revision) {
         for tool in 1..=99 {
             for other in [1, 24, 25, 49, 50, 75, 99] {
-                let file = format!(
-                    "M48\nINCH\nT{tool:02}C1\nT{other:02}C2\n%\nT{other}\nG05\nX0Y0\nM30\n"
-                );
-                let lent = self.noise(9 * ROW);
-                self.read(file.as_bytes(), &lent);
+                for declared in [format!("{tool:02}"), tool.to_string()] {
+                    let file = format!(
+                        "M48\nINCH\nT{declared}C1\nT{other:02}C2\n%\nT{other}\nG05\nX0Y0\nM30\n"
+                    );
+                    let lent = self.noise(9 * ROW);
+                    self.read(file.as_bytes(), revision, &lent);
+                }
             }
         }
     }
@@ -601,7 +662,7 @@ impl Comparison {
     fn report(&self) -> bool {
         let mut complete = true;
         for (function, numbers) in CAN_GIVE.iter().enumerate() {
-            let mut line = format!("{:5}", NAMES[function]);
+            let mut line = format!("{:9}", NAMES[function]);
             for &number in *numbers {
                 let times = self.came_up[function][number];
                 let _ = write!(line, "  {number}: {times}");
@@ -639,17 +700,17 @@ fn call<T: Copy + PartialEq>(
     Pair { expected, found, ours, theirs }
 }
 
-/// A file of these lines, each ended by LF.
+/// A file of these lines, each ended by LF, by the 2021 revision.
 fn file_of(text: &str) -> File {
     let lines: Vec<Vec<u8>> = text.split('\n').map(|line| line.as_bytes().to_vec()).collect();
     let ends = vec![&b"\n"[..]; lines.len()];
-    File { lines, ends }
+    File { lines, ends, revision: Rev2021 }
 }
 
-fn model_before(table: &[i32], line: usize) -> Model {
+fn model_before(table: &[i32], line: usize, revision: Revision) -> Model {
     match line {
-        0 | 1 => Model::start(),
-        _ => Model::after_row(&table[(line - 2) * ROW..(line - 1) * ROW]),
+        0 | 1 => Model::start(revision),
+        _ => Model::after_row(&table[(line - 2) * ROW..(line - 1) * ROW], revision),
     }
 }
 
@@ -689,7 +750,20 @@ fn state(table: &[i32], line: usize) -> &[i32] {
     &table[line * ROW - 10..line * ROW]
 }
 
-/// Demand 3, of one side: an edit answers and leaves what reading the edited file afresh would.
+/// What 2021 accepts, 2019 accepts as the same table, of one side.
+fn older_accepts<L: Library>(file: &[u8]) -> Result<(), String> {
+    let lent = vec![-5; MAX_LINES * ROW];
+    let (mut new, mut old) = (lent.clone(), lent);
+    let by_new = L::read(file, Rev2021, &mut new);
+    let by_old = L::read(file, Rev2019, &mut old);
+    if by_new.0 != 0 || (by_old == by_new && old == new) {
+        return Ok(());
+    }
+    Err(format!("2021 answers {by_new:?}, 2019 {by_old:?}, file \"{}\"", file.escape_ascii()))
+}
+
+/// Demand 3, of one side and by the file's revision: an edit answers and leaves what reading the
+/// edited file afresh would.
 fn edit_is_reading<L: Library>(file: &File, line: usize, text: &[u8]) -> Result<(), String> {
     let mut changed = file.clone();
     changed.lines[line - 1] = text.to_vec();
@@ -699,11 +773,11 @@ fn edit_is_reading<L: Library>(file: &File, line: usize, text: &[u8]) -> Result<
     }
     let n = file.lines.len();
     let mut old = vec![-5; n * ROW + 3];
-    let first = L::read(&file.bytes(), &mut old);
+    let first = L::read(&file.bytes(), file.revision, &mut old);
     let mut edited = old.clone();
-    let answer = L::edit(&mut edited, n, line, text);
+    let answer = L::edit(&mut edited, n, line, text, file.revision);
     let mut fresh = old.clone();
-    let reading = L::read(&changed, &mut fresh);
+    let reading = L::read(&changed, file.revision, &mut fresh);
 
     let fault = if first != (0, n as u32) {
         Some("the file isn't read")
@@ -746,7 +820,7 @@ fn span_fault(
     (!outside).then_some("rows outside the span changed")
 }
 
-/// Writing, then reading, gives the table without its comment rows.
+/// Writing, then reading by either revision, gives the table without its comment rows.
 fn written_reads_back<L: Library>(table: &[i32], n: usize) -> Result<(), String> {
     let mut text = vec![b'~'; n * 39];
     let written = L::write(table, n, &mut text);
@@ -758,13 +832,15 @@ fn written_reads_back<L: Library>(table: &[i32], n: usize) -> Result<(), String>
     }
     let kept: Vec<i32> =
         table[..n * ROW].chunks(ROW).filter(|row| row[0] != 0).flatten().copied().collect();
-    let mut again = vec![-5; kept.len()];
-    let read = L::read(&text[..length], &mut again);
-    if read != (0, (kept.len() / ROW) as u32) || again != kept {
-        return say("the text reads otherwise");
+    for revision in BOTH {
+        let mut again = vec![-5; kept.len()];
+        let read = L::read(&text[..length], revision, &mut again);
+        if read != (0, (kept.len() / ROW) as u32) || again != kept {
+            return say("the text reads otherwise");
+        }
     }
     let mut second = vec![b'~'; length];
-    let written_again = L::write(&again, kept.len() / ROW, &mut second);
+    let written_again = L::write(&kept, kept.len() / ROW, &mut second);
     if written_again != written || second != text[..length] {
         return say("the text is written otherwise the second time");
     }
@@ -775,7 +851,9 @@ fn written_reads_back<L: Library>(table: &[i32], n: usize) -> Result<(), String>
 
 fn compare(count: u64, seed: u64) -> ExitCode {
     let mut comparison = Comparison::new(seed);
-    comparison.limits();
+    for revision in BOTH {
+        comparison.limits(revision);
+    }
     comparison.bench_file();
     while comparison.compared < count {
         comparison.round();
@@ -790,10 +868,11 @@ fn compare(count: u64, seed: u64) -> ExitCode {
     }
 }
 
-/// What `program` prints when it is given `file`.
-fn printed(program: &[String], file: &[u8]) -> std::io::Result<Vec<u8>> {
+/// What `program` prints when it is given `file` and the word of a revision.
+fn printed(program: &[String], word: Option<&str>, file: &[u8]) -> std::io::Result<Vec<u8>> {
     let mut child = Command::new(&program[0])
         .args(&program[1..])
+        .args(word)
         .stdin(Stdio::piped())
         .stdout(Stdio::piped())
         .spawn()?;
@@ -804,9 +883,10 @@ fn printed(program: &[String], file: &[u8]) -> std::io::Result<Vec<u8>> {
     Ok(child.wait_with_output()?.stdout)
 }
 
-/// A file for the program `holes`.
-fn holes_input(case: u64, random: &mut Random) -> Vec<u8> {
-    match case {
+/// A file for the program `holes`, and its revision.
+fn holes_input(case: u64, random: &mut Random) -> (Vec<u8>, Revision) {
+    let mut revision = inputs::revision(random);
+    let file = match case {
         0 => Vec::new(),
         1..=3 => inputs::file_of_bytes(MAX_FILE + case as usize - 2),
         4..=6 => inputs::file_of_lines(MAX_LINES + case as usize - 5, random).bytes(),
@@ -814,29 +894,31 @@ fn holes_input(case: u64, random: &mut Random) -> Vec<u8> {
         _ => {
             let lines = 4 + random.below(60);
             let file = inputs::valid_file(lines, random);
+            revision = file.revision;
             match random.below(3) {
                 0 => inputs::damaged(&file, random),
                 _ => file.bytes(),
             }
         }
-    }
+    };
+    (file, revision)
 }
 
-/// A line's number, a tab, a new text and a file, for the program `moves`.
-/// Most edits are of a valid file and are accepted.
-fn moves_input(case: u64, random: &mut Random) -> Vec<u8> {
+/// A line's number, a tab, a new text and a file, for the program `moves`, and
+/// the revision. Most edits are of a valid file and are accepted.
+fn moves_input(case: u64, random: &mut Random) -> (Vec<u8>, Revision) {
     let lines = 4 + random.below(40);
     let file = inputs::valid_file(lines, random);
     let bytes = if random.below(10) == 0 { inputs::damaged(&file, random) } else { file.bytes() };
     let mut table = vec![0; ROW * MAX_LINES];
-    let (number, n) = plain::read(&bytes, &mut table);
+    let (number, n) = plain::read(&bytes, file.revision, &mut table);
     let n = if number == 0 { n as usize } else { lines };
     let line = match random.below(20) {
         0 => [0, n + 1, 9999, 10000][random.below(4)],
         _ => 1 + random.below(n),
     };
     let text = if number == 0 && (1..=n).contains(&line) && random.below(4) != 0 {
-        model_before(&table, line).allowed(random).into_bytes()
+        model_before(&table, line, file.revision).allowed(random).into_bytes()
     } else {
         inputs::any_command(random).into_bytes()
     };
@@ -855,28 +937,43 @@ fn moves_input(case: u64, random: &mut Random) -> Vec<u8> {
         input.push(b'\n');
         input.extend_from_slice(&bytes);
     }
-    input
+    (input, file.revision)
+}
+
+/// The word for a revision: 2021 needs none. Now and then it is the other
+/// revision's.
+fn word_for(revision: Revision, random: &mut Random) -> (Option<&'static str>, Revision) {
+    let revision = match random.below(8) {
+        0 => by(revision, [Rev2021, Rev2019]),
+        _ => revision,
+    };
+    let word = match revision {
+        Rev2019 => Some("2019"),
+        Rev2021 => *random.pick(&[None, Some("2021")]),
+    };
+    (word, revision)
 }
 
 fn compare_print(
     count: u64,
     seed: u64,
     program: &[String],
-    input: fn(u64, &mut Random) -> Vec<u8>,
-    plain_print: fn(&[u8]) -> Vec<u8>,
+    input: fn(u64, &mut Random) -> (Vec<u8>, Revision),
+    plain_print: fn(&[u8], Revision) -> Vec<u8>,
 ) -> std::io::Result<ExitCode> {
     let mut random = Random::new(seed);
     let mut different = 0;
     let mut accepted = 0;
     for case in 0..count {
-        let input = input(case, &mut random);
-        let (expected, found) = (plain_print(&input), printed(program, &input)?);
+        let (input, revision) = input(case, &mut random);
+        let (word, revision) = word_for(revision, &mut random);
+        let (expected, found) = (plain_print(&input, revision), printed(program, word, &input)?);
         accepted += u64::from(!expected.starts_with(b"refused"));
         if expected != found {
             different += 1;
             if different <= SHOWN {
                 println!(
-                    "DIFFERENT print: plain \"{}\", program \"{}\"\ninput \"{}\"\n",
+                    "DIFFERENT print: plain \"{}\", program \"{}\"\nword {word:?}, input \"{}\"\n",
                     expected.escape_ascii(),
                     found.escape_ascii(),
                     input.escape_ascii()
@@ -895,7 +992,7 @@ fn main() -> ExitCode {
         Some(text) => text.parse().ok(),
         None => Some(otherwise),
     };
-    type Printing = (fn(u64, &mut Random) -> Vec<u8>, fn(&[u8]) -> Vec<u8>);
+    type Printing = (fn(u64, &mut Random) -> (Vec<u8>, Revision), fn(&[u8], Revision) -> Vec<u8>);
     let printing: Option<Printing> = match arguments.first().map(String::as_str) {
         Some("print") => Some((holes_input, plain::print)),
         Some("moves") => Some((moves_input, plain::print_moves)),

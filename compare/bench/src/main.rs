@@ -10,12 +10,13 @@
 //! A job's name says what is done, with which file, of how many lines; for an
 //! edit also where and how far it goes: `at-once` meets at the edited line,
 //! `never` runs to the last. Each run of an edit changes its line: two texts
-//! take turns. Both implementations get the same files and the same buffers.
+//! take turns. Both implementations get the same files and the same buffers, and
+//! read by the 2021 revision.
 
 #[path = "../../src/library.rs"]
 mod library;
 
-use library::{Answer, Library, Plain, Xnc};
+use library::{Answer, Library, Plain, Revision::Rev2021, Xnc};
 use std::hint::black_box;
 use std::process::ExitCode;
 use std::time::Instant;
@@ -192,7 +193,7 @@ impl Bench {
     fn new(job: &Job) -> Bench {
         let file = job.body.file(job.lines);
         let mut table = vec![0; job.lines * ROW];
-        let answer = Plain::read(&file, &mut table);
+        let answer = Plain::read(&file, Rev2021, &mut table);
         assert_eq!(answer, (0, job.lines as u32), "{}", job.name());
         let text = vec![0; file.len() + job.lines];
         Bench { file, table, text, hole: [0; 7] }
@@ -204,7 +205,7 @@ impl Bench {
             Work::Nothing => {}
             Work::Read => {
                 for _ in 0..times {
-                    done(L::read(black_box(&self.file), black_box(&mut self.table)));
+                    done(L::read(black_box(&self.file), Rev2021, black_box(&mut self.table)));
                 }
             }
             Work::Write => {
@@ -224,12 +225,13 @@ impl Bench {
                 let meeting = if never { n } else { line } as u32;
                 for turn in 0..times {
                     let text = texts[(turn % 2) as usize];
-                    let answer = L::edit(black_box(&mut self.table), n, line, black_box(text));
+                    let answer =
+                        L::edit(black_box(&mut self.table), n, line, black_box(text), Rev2021);
                     assert_eq!(answer, (0, meeting), "{}", job.name());
                 }
                 // An even number of edits leaves the table as it was.
                 if times % 2 == 1 {
-                    done(L::edit(&mut self.table, n, line, texts[1]));
+                    done(L::edit(&mut self.table, n, line, texts[1], Rev2021));
                 }
             }
         }

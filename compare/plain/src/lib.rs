@@ -1,5 +1,5 @@
 //! The XNC line table in plain Rust: a reader, an editor, a hole query, a
-//! writer and a print-out, written from the format's paper alone.
+//! writer and a print-out, written from the format's papers alone.
 //!
 //! It shares no code, table or generated data with the library it is compared
 //! with. Every function answers a pair: on success `(0, count)`, on refusal
@@ -142,6 +142,15 @@ fn coordinate(text: &[u8]) -> Option<(Option<i32>, &[u8])> {
 
 // --------------------------------------------------------------- commands
 
+/// The revision by which text is read. The two differ in one form: 2019 also
+/// takes a declaration whose tool has one digit, as in `T1C0.6`. A row doesn't
+/// say which it was read by. The writer always writes 2021, which both read.
+#[derive(Clone, Copy, Debug, PartialEq, Eq)]
+pub enum Revision {
+    Rev2019,
+    Rev2021,
+}
+
 #[derive(Clone, Copy, Debug, PartialEq, Eq)]
 enum Command {
     Comment,
@@ -164,7 +173,7 @@ enum Command {
 
 impl Command {
     /// The command of one line without its end, or the refusal's number.
-    fn of_line(line: &[u8]) -> Result<Command, u32> {
+    fn of_line(line: &[u8], revision: Revision) -> Result<Command, u32> {
         need(line.len() <= MAX_LINE, refuse::LINE_SIZE)?;
         need(line.iter().all(|byte| (32..=126).contains(byte)), refuse::BYTE)?;
         match line {
@@ -188,7 +197,7 @@ impl Command {
                 let (x, y, radius) = arc(rest)?;
                 Ok(Command::Counter { x, y, radius })
             }
-            [b'T', rest @ ..] => tool(rest),
+            [b'T', rest @ ..] => tool(rest, revision),
             [b';', rest @ ..] => {
                 need(!rest.contains(&b';'), refuse::FORM)?;
                 Ok(Command::Comment)
@@ -290,7 +299,7 @@ fn size(text: &[u8]) -> Result<Option<i32>, u32> {
 }
 
 /// What follows a `T`: a selection, or a declaration with its diameter.
-fn tool(text: &[u8]) -> Result<Command, u32> {
+fn tool(text: &[u8], revision: Revision) -> Result<Command, u32> {
     let value = |byte: u8| i32::from(byte - b'0');
     match *text {
         [ones @ b'0'..=b'9'] => {
@@ -304,14 +313,23 @@ fn tool(text: &[u8]) -> Result<Command, u32> {
             Ok(Command::Select { tool })
         }
         [tens @ b'0'..=b'9', ones @ b'0'..=b'9', b'C', ref rest @ ..] => {
-            let diameter = size(rest)?;
             let tool = value(tens) * 10 + value(ones);
-            need(tool >= 1, refuse::RANGE)?;
-            let diameter = diameter.ok_or(refuse::RANGE)?;
-            Ok(Command::Declare { tool, diameter })
+            declaration(tool, rest)
+        }
+        [ones @ b'0'..=b'9', b'C', ref rest @ ..] if revision == Revision::Rev2019 => {
+            declaration(value(ones), rest)
         }
         _ => Err(refuse::FORM),
     }
+}
+
+/// A declaration's tail, what follows its `C`. Its form comes before any range,
+/// the tool's too.
+fn declaration(tool: i32, rest: &[u8]) -> Result<Command, u32> {
+    let diameter = size(rest)?;
+    need(tool >= 1, refuse::RANGE)?;
+    let diameter = diameter.ok_or(refuse::RANGE)?;
+    Ok(Command::Declare { tool, diameter })
 }
 
 // ------------------------------------------------------------------ state
@@ -498,19 +516,19 @@ fn state_before(rows: &[i32], line: usize) -> Result<State, Refusal> {
 // ---------------------------------------------------------------- reading
 
 /// Reads `file` into `table`. Success counts the lines.
-pub fn read(file: &[u8], table: &mut [i32]) -> (u32, u32) {
-    answer(try_read(file, table))
+pub fn read(file: &[u8], revision: Revision, table: &mut [i32]) -> (u32, u32) {
+    answer(try_read(file, revision, table))
 }
 
-fn try_read(file: &[u8], table: &mut [i32]) -> Result<u32, Refusal> {
-    let rows = rows_of(file)?;
+fn try_read(file: &[u8], revision: Revision, table: &mut [i32]) -> Result<u32, Refusal> {
+    let rows = rows_of(file, revision)?;
     let lent = table.get_mut(..rows.len()).ok_or((refuse::TOO_SHORT, 0))?;
     lent.copy_from_slice(&rows);
     Ok((rows.len() / ROW) as u32)
 }
 
 /// All rows of `file`, one after the other.
-fn rows_of(file: &[u8]) -> Result<Vec<i32>, Refusal> {
+fn rows_of(file: &[u8], revision: Revision) -> Result<Vec<i32>, Refusal> {
     need(file.len() <= MAX_FILE, (refuse::FILE_SIZE, 0))?;
     // No line that is read takes fewer than two bytes.
     let mut rows = Vec::with_capacity((file.len() / 2).min(MAX_LINES) * ROW);
@@ -523,7 +541,7 @@ fn rows_of(file: &[u8]) -> Result<Vec<i32>, Refusal> {
         let end = rest.iter().position(|&byte| byte == b'\n').ok_or((refuse::NOT_ENDED, line))?;
         let text = &rest[..end];
         let text = text.strip_suffix(b"\r").unwrap_or(text);
-        let command = Command::of_line(text).map_err(|number| (number, line))?;
+        let command = Command::of_line(text, revision).map_err(|number| (number, line))?;
         state = state.after(command).map_err(|number| (number, line))?;
         rows.extend(command.numbers());
         rows.extend(state.numbers());
@@ -536,21 +554,45 @@ fn rows_of(file: &[u8]) -> Result<Vec<i32>, Refusal> {
 // ---------------------------------------------------------------- editing
 
 /// Puts `text` in the place of one line. Success counts the meeting line.
-pub fn edit(table: &mut [i32], n: usize, line: usize, text: &[u8]) -> (u32, u32) {
-    answer(try_edit(table, n, line, text))
+///
+/// Only `text` is read by `revision`; the table may stem from the other.
+pub fn edit(
+    table: &mut [i32],
+    n: usize,
+    line: usize,
+    text: &[u8],
+    revision: Revision,
+) -> (u32, u32) {
+    answer(try_edit(table, n, line, text, revision))
 }
 
-fn try_edit(table: &mut [i32], n: usize, line: usize, text: &[u8]) -> Result<u32, Refusal> {
+fn try_edit(
+    table: &mut [i32],
+    n: usize,
+    line: usize,
+    text: &[u8],
+    revision: Revision,
+) -> Result<u32, Refusal> {
     let numbers = numbers_of(table, n)?;
     let rows = &mut table[..numbers];
     need((1..=n).contains(&line), (refuse::LINE_NUMBER, 0))?;
     let ends_line = |byte: &u8| matches!(byte, b'\n' | b'\r');
     need(!text.iter().any(ends_line), (refuse::LINE_END, 0))?;
+    edit_rows(rows, line, text, revision)
+}
 
+/// As `edit`, of a line that is there and a text that holds no line's end.
+fn edit_rows(
+    rows: &mut [i32],
+    line: usize,
+    text: &[u8],
+    revision: Revision,
+) -> Result<u32, Refusal> {
+    let n = rows.len() / ROW;
     let before = state_before(rows, line)?;
     let (_, mut old) = row_at(rows, line)?;
     let refused = |number| (number, line as u32);
-    let command = Command::of_line(text).map_err(refused)?;
+    let command = Command::of_line(text, revision).map_err(refused)?;
     let mut state = before.after(command).map_err(refused)?;
 
     // The new states of the span, kept apart until nothing can refuse.
@@ -740,8 +782,8 @@ fn put_number(out: &mut Vec<u8>, letter: u8, value: i32) {
 
 /// What the program prints for `file`: unit, tools, holes and their count, or
 /// the one line of a refusal.
-pub fn print(file: &[u8]) -> Vec<u8> {
-    match rows_of(file) {
+pub fn print(file: &[u8], revision: Revision) -> Vec<u8> {
+    match rows_of(file, revision) {
         Ok(rows) => holes_printed(&rows),
         Err((number, line)) => format!("refused\t{number}\t{line}\n").into_bytes(),
     }
@@ -814,26 +856,26 @@ fn holes_printed(rows: &[i32]) -> Vec<u8> {
 
 /// What the program `moves` prints: its input's first line has a line's number,
 /// a tab and the new text, and the file follows. No edit is used: the file and
-/// the edited file are both read.
-pub fn print_moves(input: &[u8]) -> Vec<u8> {
+/// the edited file are both read, by one revision.
+pub fn print_moves(input: &[u8], revision: Revision) -> Vec<u8> {
     let (first, file) = match input.iter().position(|&byte| byte == b'\n') {
         Some(end) => (&input[..end], &input[end + 1..]),
         None => (input, &input[input.len()..]),
     };
-    match moves_printed(first.strip_suffix(b"\r").unwrap_or(first), file) {
+    match moves_printed(first.strip_suffix(b"\r").unwrap_or(first), file, revision) {
         Ok(out) => out,
         Err((number, line)) => format!("refused\t{number}\t{line}\n").into_bytes(),
     }
 }
 
-fn moves_printed(first: &[u8], file: &[u8]) -> Result<Vec<u8>, Refusal> {
-    let old = Board::of(&rows_of(file)?);
+fn moves_printed(first: &[u8], file: &[u8], revision: Revision) -> Result<Vec<u8>, Refusal> {
+    let old = Board::of(&rows_of(file, revision)?);
     let lines = old.states.len();
     let (line, text) = asked(first)
         .filter(|(line, _)| (1..=lines).contains(line))
         .ok_or((refuse::LINE_NUMBER, 0))?;
     need(!text.contains(&b'\r'), (refuse::LINE_END, 0))?;
-    let new = Board::of(&rows_of(&with_line(file, line, text))?);
+    let new = Board::of(&rows_of(&with_line(file, line, text), revision)?);
 
     let agree = |line: usize| old.states[line - 1] == new.states[line - 1];
     let meeting = (line..=lines).find(|&line| agree(line)).unwrap_or(lines);

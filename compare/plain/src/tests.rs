@@ -1,3 +1,4 @@
+use super::Revision::{Rev2019, Rev2021};
 use super::*;
 
 const BENCH: &str = "M48\nMETRIC\nT01C0.5\nT07C1.25\n%\nG05\nT1\nX2Y-3.5\nT07\nG00X0Y0\nM15\n\
@@ -6,9 +7,15 @@ const BENCH_LINES: usize = 15;
 
 const PATTERN: i32 = -77;
 
+const BOTH: [Revision; 2] = [Rev2019, Rev2021];
+
 fn verdict(file: &[u8]) -> (u32, u32) {
+    verdict_by(Rev2021, file)
+}
+
+fn verdict_by(revision: Revision, file: &[u8]) -> (u32, u32) {
     let mut table = vec![PATTERN; ROW * (MAX_LINES + 1)];
-    let answer = read(file, &mut table);
+    let answer = read(file, revision, &mut table);
     let untouched = if answer.0 == 0 { answer.1 as usize * ROW } else { 0 };
     assert!(table[untouched..].iter().all(|&number| number == PATTERN));
     answer
@@ -16,7 +23,12 @@ fn verdict(file: &[u8]) -> (u32, u32) {
 
 /// The verdict on one body line, at line 7 of a file that is ended by M30.
 fn body(line: &str) -> (u32, u32) {
-    verdict(format!("M48\nMETRIC\nT01C1\n%\nT01\nG05\n{line}\nM30\n").as_bytes())
+    body_by(Rev2021, line)
+}
+
+fn body_by(revision: Revision, line: &str) -> (u32, u32) {
+    let file = format!("M48\nMETRIC\nT01C1\n%\nT01\nG05\n{line}\nM30\n");
+    verdict_by(revision, file.as_bytes())
 }
 
 /// The verdict on one routing line with the tool down at 0, 0.
@@ -26,12 +38,20 @@ fn rout(line: &str) -> (u32, u32) {
 
 /// The verdict on one header line, at line 3.
 fn header(line: &str) -> (u32, u32) {
-    verdict(format!("M48\nINCH\n{line}\n%\nM30\n").as_bytes())
+    header_by(Rev2021, line)
+}
+
+fn header_by(revision: Revision, line: &str) -> (u32, u32) {
+    verdict_by(revision, format!("M48\nINCH\n{line}\n%\nM30\n").as_bytes())
 }
 
 fn table_of(file: &str) -> Vec<i32> {
+    table_by(Rev2021, file)
+}
+
+fn table_by(revision: Revision, file: &str) -> Vec<i32> {
     let mut table = vec![0; ROW * file.lines().count()];
-    assert_eq!(read(file.as_bytes(), &mut table), (0, file.lines().count() as u32));
+    assert_eq!(read(file.as_bytes(), revision, &mut table), (0, file.lines().count() as u32));
     table
 }
 
@@ -53,12 +73,16 @@ fn replaced(line: usize, text: &str) -> String {
 /// Edits the bench file's table and holds the result against a fresh reading
 /// of the edited file, with numbers beyond the table lent as well.
 fn edited(line: usize, text: &str) -> (u32, u32) {
+    edited_by(Rev2021, line, text)
+}
+
+fn edited_by(revision: Revision, line: usize, text: &str) -> (u32, u32) {
     let mut table = bench();
     table.extend([PATTERN; 20]);
     let mut fresh = table.clone();
     let before = table.clone();
-    let answer = edit(&mut table, BENCH_LINES, line, text.as_bytes());
-    let read_answer = read(replaced(line, text).as_bytes(), &mut fresh);
+    let answer = edit(&mut table, BENCH_LINES, line, text.as_bytes(), revision);
+    let read_answer = read(replaced(line, text).as_bytes(), revision, &mut fresh);
     assert_eq!(table, fresh);
     if answer.0 != 0 {
         assert_eq!(answer, read_answer);
@@ -86,7 +110,7 @@ fn bench_file_prints_as_the_paper_shows() {
                     12\tL\t7\t0\t0\t4000000\t0\t0\n\
                     13\tA\t7\t4000000\t0\t6000000\t2000000\t2000000\n\
                     holes\t3\n";
-    assert_eq!(String::from_utf8(print(BENCH.as_bytes())).unwrap(), expected);
+    assert_eq!(String::from_utf8(print(BENCH.as_bytes(), Rev2021)).unwrap(), expected);
 }
 
 #[test]
@@ -128,14 +152,16 @@ fn edits_a_to_l() {
         ('l', 12, "G01X4Y0", (0, 12)),
     ];
     for (case, line, text, expected) in cases {
-        assert_eq!(edited(line, text), expected, "case {case}");
+        for revision in BOTH {
+            assert_eq!(edited_by(revision, line, text), expected, "case {case}, {revision:?}");
+        }
     }
 }
 
 #[test]
 fn case_f_routs_with_tool_1() {
     let mut table = bench();
-    assert_eq!(edit(&mut table, BENCH_LINES, 9, b";"), (0, 15));
+    assert_eq!(edit(&mut table, BENCH_LINES, 9, b";", Rev2021), (0, 15));
     let mut found = [0; 7];
     assert_eq!(hole(&table, BENCH_LINES, 12, &mut found), (0, 1));
     assert_eq!(found, [12, 1, 0, 0, 4_000_000, 0, 0]);
@@ -198,13 +224,13 @@ const ATTRIBUTES: &str = "M48\n; #@! TF.FileFunction,Plated,1,4,PTH\n\
 
 #[test]
 fn example_files_are_read() {
-    let printed = String::from_utf8(print(EXAMPLE.as_bytes())).unwrap();
+    let printed = String::from_utf8(print(EXAMPLE.as_bytes(), Rev2021)).unwrap();
     assert!(printed.starts_with("unit\tMETRIC\ntool\t1\t600000\ntool\t2\t700000\n"));
     assert!(printed.contains("\n20\tL\t3\t8010000\t3825000\t6540000\t3825000\t0\n"));
     assert!(printed.contains("\n25\tA\t4\t5000000\t2600000\t6000000\t1600000\t1000000\n"));
     assert!(printed.ends_with("\n34\tH\t3\t8000000\t8000000\t8000000\t8000000\t0\nholes\t14\n"));
 
-    let printed = String::from_utf8(print(ATTRIBUTES.as_bytes())).unwrap();
+    let printed = String::from_utf8(print(ATTRIBUTES.as_bytes(), Rev2021)).unwrap();
     assert!(printed.contains("\n14\tH\t1\t8150000\t12050000\t8150000\t12050000\t0\n"));
     assert!(printed.ends_with("holes\t9\n"));
 }
@@ -224,7 +250,7 @@ fn reading_refuses_by_file_and_line_sizes() {
     assert_eq!(verdict(&file).0, 0);
     file.push(b'\n');
     assert_eq!(verdict(&file), (1, 0));
-    assert_eq!(print(&file), b"refused\t1\t0\n");
+    assert_eq!(print(&file, Rev2021), b"refused\t1\t0\n");
 
     let lines = |comments: usize| format!("M48\nMETRIC\n%\n{}M30\n", ";\n".repeat(comments));
     assert_eq!(verdict(lines(996).as_bytes()), (0, 1_000));
@@ -422,10 +448,10 @@ fn reading_refuses_impossible_arcs() {
 #[test]
 fn reading_refuses_a_short_table_last() {
     let mut table = vec![PATTERN; ROW * BENCH_LINES - 1];
-    assert_eq!(read(BENCH.as_bytes(), &mut table), (15, 0));
+    assert_eq!(read(BENCH.as_bytes(), Rev2021, &mut table), (15, 0));
     assert!(table.iter().all(|&number| number == PATTERN));
-    assert_eq!(read(BENCH.replace("M30\n", "").as_bytes(), &mut []), (14, 15));
-    assert_eq!(print(BENCH.replace("M30\n", "").as_bytes()), b"refused\t14\t15\n");
+    assert_eq!(read(BENCH.replace("M30\n", "").as_bytes(), Rev2021, &mut []), (14, 15));
+    assert_eq!(print(BENCH.replace("M30\n", "").as_bytes(), Rev2021), b"refused\t14\t15\n");
 }
 
 #[test]
@@ -433,14 +459,14 @@ fn editing_refuses_sizes_lines_and_ends() {
     let good = bench();
     let mut table = good.clone();
     for n in [0, BENCH_LINES + 1, 1_000, 1_001, usize::MAX, usize::MAX / ROW + 1] {
-        assert_eq!(edit(&mut table, n, 0, b"\n"), (18, 0));
+        assert_eq!(edit(&mut table, n, 0, b"\n", Rev2021), (18, 0));
     }
     for line in [0, 16, 1_000, usize::MAX, 1 << 32] {
-        assert_eq!(edit(&mut table, BENCH_LINES, line, b"\n"), (16, 0));
+        assert_eq!(edit(&mut table, BENCH_LINES, line, b"\n", Rev2021), (16, 0));
     }
     table[0] = 99;
     for text in [&b"\n"[..], b"\r", b"X1Y1\r", b";\n;", &[b'\n'; 300]] {
-        assert_eq!(edit(&mut table, BENCH_LINES, 1, text), (17, 0));
+        assert_eq!(edit(&mut table, BENCH_LINES, 1, text, Rev2021), (17, 0));
     }
     table[0] = 1;
     assert_eq!(table, good);
@@ -470,27 +496,27 @@ fn editing_looks_at_the_rows_of_its_span_only() {
         table
     };
     // The row before, the edited row, and rows on the way.
-    assert_eq!(edit(&mut bad_at(7), BENCH_LINES, 8, b"X2Y3"), (18, 7));
-    assert_eq!(edit(&mut bad_at(8), BENCH_LINES, 8, b""), (18, 8));
-    assert_eq!(edit(&mut bad_at(6), BENCH_LINES, 8, b"X2Y3"), (0, 8));
-    assert_eq!(edit(&mut bad_at(9), BENCH_LINES, 8, b"X2Y3"), (0, 8));
-    assert_eq!(edit(&mut bad_at(13), BENCH_LINES, 12, b"G01X4Y1"), (18, 13));
-    assert_eq!(edit(&mut bad_at(14), BENCH_LINES, 12, b"G01X4Y1"), (0, 13));
-    assert_eq!(edit(&mut bad_at(15), BENCH_LINES, 2, b"INCH"), (18, 15));
+    assert_eq!(edit(&mut bad_at(7), BENCH_LINES, 8, b"X2Y3", Rev2021), (18, 7));
+    assert_eq!(edit(&mut bad_at(8), BENCH_LINES, 8, b"", Rev2021), (18, 8));
+    assert_eq!(edit(&mut bad_at(6), BENCH_LINES, 8, b"X2Y3", Rev2021), (0, 8));
+    assert_eq!(edit(&mut bad_at(9), BENCH_LINES, 8, b"X2Y3", Rev2021), (0, 8));
+    assert_eq!(edit(&mut bad_at(13), BENCH_LINES, 12, b"G01X4Y1", Rev2021), (18, 13));
+    assert_eq!(edit(&mut bad_at(14), BENCH_LINES, 12, b"G01X4Y1", Rev2021), (0, 13));
+    assert_eq!(edit(&mut bad_at(15), BENCH_LINES, 2, b"INCH", Rev2021), (18, 15));
     // The row's test comes before its own refusal.
-    assert_eq!(edit(&mut bad_at(7), BENCH_LINES, 3, b"T02C0.5"), (18, 7));
-    assert_eq!(edit(&mut bad_at(8), BENCH_LINES, 3, b"T02C0.5"), (10, 7));
+    assert_eq!(edit(&mut bad_at(7), BENCH_LINES, 3, b"T02C0.5", Rev2021), (18, 7));
+    assert_eq!(edit(&mut bad_at(8), BENCH_LINES, 3, b"T02C0.5", Rev2021), (10, 7));
 }
 
 #[test]
 fn editing_a_bad_table_may_end_by_agreement() {
     // Cut before M30: the last row agrees, so 14 isn't tested.
     let mut table = bench();
-    assert_eq!(edit(&mut table, 8, 8, b"X2Y3"), (0, 8));
-    assert_eq!(edit(&mut table, 8, 8, b"T07"), (14, 9));
+    assert_eq!(edit(&mut table, 8, 8, b"X2Y3", Rev2021), (0, 8));
+    assert_eq!(edit(&mut table, 8, 8, b"T07", Rev2021), (14, 9));
     // A selected tool outside the declared set is in range, and a hit asks no more.
     table[6 * ROW + 8] = 50;
-    assert_eq!(edit(&mut table, 8, 8, b"X2Y4"), (14, 9));
+    assert_eq!(edit(&mut table, 8, 8, b"X2Y4", Rev2021), (14, 9));
 }
 
 /// Whether the arc's row, line 13 of the bench file, is one with this number in its place.
@@ -631,4 +657,219 @@ fn diameters_are_found_or_refused() {
     assert_eq!(diameter(&bad, BENCH_LINES, 1), (0, 500_000));
     assert_eq!(diameter(&bad, BENCH_LINES, 7), (18, 4));
     assert_eq!(diameter(&bad, BENCH_LINES, 2), (18, 4));
+}
+
+// ------------------------------------------------------- the 2019 revision
+
+/// The bench file as an older team writes it.
+fn bench_of_2019() -> String {
+    BENCH.replace("\nT01C", "\nT1C").replace("\nT07C", "\nT7C")
+}
+
+#[test]
+fn one_digit_declarations_are_read_by_2019_and_have_no_form_by_2021() {
+    for tool in 1..=9 {
+        let line = format!("T{tool}C0.6");
+        assert_eq!(header_by(Rev2019, &line), (0, 5), "{line}");
+        assert_eq!(header_by(Rev2021, &line), (5, 3), "{line}");
+        let table = table_by(Rev2019, &format!("M48\nINCH\n{line}\n%\nM30\n"));
+        let declared = 1 << tool;
+        assert_eq!(row(&table, 3), [4, tool, 0, 0, 600_000, 2, 2, 0, 0, 0, 0, declared, 0, 0, 0]);
+    }
+}
+
+#[test]
+fn tool_numbers_of_declarations_by_both() {
+    let cases = [
+        ("T0C1", (7, 3), (5, 3)),
+        ("T00C1", (7, 3), (7, 3)),
+        ("T000C1", (5, 3), (5, 3)),
+        ("T001C1", (5, 3), (5, 3)),
+        ("T100C1", (5, 3), (5, 3)),
+        ("T01C1", (0, 5), (0, 5)),
+        ("T10C1", (0, 5), (0, 5)),
+        ("T99C1", (0, 5), (0, 5)),
+        ("TC1", (5, 3), (5, 3)),
+        ("T+1C1", (5, 3), (5, 3)),
+        ("T1.C1", (5, 3), (5, 3)),
+        ("T1 C1", (5, 3), (5, 3)),
+        ("T1c1", (5, 3), (5, 3)),
+        ("T1A1", (5, 3), (5, 3)),
+    ];
+    for (line, by_2019, by_2021) in cases {
+        assert_eq!(header_by(Rev2019, line), by_2019, "{line}");
+        assert_eq!(header_by(Rev2021, line), by_2021, "{line}");
+    }
+}
+
+#[test]
+fn diameters_behind_one_digit_have_their_form_and_range() {
+    for tail in ["", "-1", "+1", ".", "1.1.1", "1 ", " 1", "1C1", "C1", "1000q"] {
+        for line in [format!("T1C{tail}"), format!("T0C{tail}")] {
+            assert_eq!(header_by(Rev2019, &line), (5, 3), "{line}");
+        }
+    }
+    for tail in ["0", ".0", "1000", "0.0000001", "1.0000000"] {
+        for line in [format!("T1C{tail}"), format!("T0C{tail}")] {
+            assert_eq!(header_by(Rev2019, &line), (7, 3), "{line}");
+            assert_eq!(header_by(Rev2021, &line), (5, 3), "{line}");
+        }
+    }
+    for tail in ["1", "5.", ".5", "008.150", "0.000001", "999.999999"] {
+        assert_eq!(header_by(Rev2019, &format!("T1C{tail}")), (0, 5), "{tail}");
+    }
+}
+
+#[test]
+fn lines_are_as_long_by_both() {
+    let declaration = |zeros| format!("T1C{}1", "0".repeat(zeros));
+    assert_eq!(header_by(Rev2019, &declaration(252)), (0, 5));
+    assert_eq!(header_by(Rev2021, &declaration(252)), (5, 3));
+    for revision in BOTH {
+        assert_eq!(header_by(revision, &declaration(253)), (6, 3));
+        assert_eq!(header_by(revision, "T1C1\t"), (4, 3));
+    }
+}
+
+#[test]
+fn texts_without_form_have_none_by_2019_either() {
+    for line in NO_FORM {
+        assert_eq!(body_by(Rev2019, line), (5, 7), "{line}");
+    }
+}
+
+#[test]
+fn selections_are_the_same_by_both() {
+    for revision in BOTH {
+        for (line, expected) in [
+            ("T1", (0, 8)),
+            ("T01", (0, 8)),
+            ("T2", (10, 7)),
+            ("T02", (10, 7)),
+            ("T0", (7, 7)),
+            ("T00", (7, 7)),
+            ("T001", (5, 7)),
+        ] {
+            assert_eq!(body_by(revision, line), expected, "{line}, {revision:?}");
+        }
+    }
+}
+
+#[test]
+fn one_digit_declarations_have_their_phase() {
+    assert_eq!(body_by(Rev2019, "T2C1"), (8, 7));
+    assert_eq!(body_by(Rev2021, "T2C1"), (5, 7));
+    assert_eq!(verdict_by(Rev2019, b"M48\nT1C1\n"), (8, 2));
+    assert_eq!(verdict_by(Rev2019, b"T1C1\n"), (8, 1));
+}
+
+#[test]
+fn a_tool_is_declared_once_whatever_its_digits() {
+    assert_eq!(header_by(Rev2019, "T1C0.5\nT01C0.5"), (9, 4));
+    assert_eq!(header_by(Rev2019, "T01C0.5\nT1C0.5"), (9, 4));
+    assert_eq!(header_by(Rev2019, "T1C0.5\nT2C1\nT1C0.6"), (9, 5));
+    assert_eq!(header_by(Rev2019, "T1C0.5\nT10C0.5\nT11C0.5"), (0, 7));
+    assert_eq!(header_by(Rev2021, "T1C0.5\nT01C0.5"), (5, 3));
+    assert_eq!(header_by(Rev2021, "T01C0.5\nT1C0.5"), (5, 4));
+}
+
+/// One digit and two, in declarations and in selections.
+const MIXED: &str = "M48\nINCH\nT9C.3\nT10C2\nT07C1.250\nT1C0.5\n%\nG05\nT01\nX1Y1\nT7\nX2Y2\n\
+                     T10\nX3Y3\nT9\nX4Y4\nM30\n";
+
+#[test]
+fn one_and_two_digits_stand_in_one_file_by_2019() {
+    let expected = "unit\tINCH\n\
+                    tool\t1\t500000\n\
+                    tool\t7\t1250000\n\
+                    tool\t9\t300000\n\
+                    tool\t10\t2000000\n\
+                    10\tH\t1\t1000000\t1000000\t1000000\t1000000\t0\n\
+                    12\tH\t7\t2000000\t2000000\t2000000\t2000000\t0\n\
+                    14\tH\t10\t3000000\t3000000\t3000000\t3000000\t0\n\
+                    16\tH\t9\t4000000\t4000000\t4000000\t4000000\t0\n\
+                    holes\t4\n";
+    assert_eq!(String::from_utf8(print(MIXED.as_bytes(), Rev2019)).unwrap(), expected);
+    assert_eq!(print(MIXED.as_bytes(), Rev2021), b"refused\t5\t3\n");
+}
+
+#[test]
+fn what_2021_accepts_2019_accepts_as_the_same_table() {
+    let ended_by_cr_lf = BENCH.replace('\n', "\r\n");
+    for file in [BENCH, &ended_by_cr_lf, EXAMPLE, ATTRIBUTES, "M48\nINCH\n;\n%\nM30\n"] {
+        assert_eq!(table_by(Rev2019, file), table_by(Rev2021, file));
+        assert_eq!(print(file.as_bytes(), Rev2019), print(file.as_bytes(), Rev2021));
+    }
+    assert_eq!(table_by(Rev2019, &bench_of_2019()), bench());
+}
+
+#[test]
+fn what_is_written_reads_back_to_the_same_table_by_both() {
+    let written = "M48\nINCH\nT09C0.3\nT10C2\nT07C1.25\nT01C0.5\n%\nG05\nT01\nX1Y1\nT07\nX2Y2\n\
+                   T10\nX3Y3\nT09\nX4Y4\nM30\n";
+    let table = table_by(Rev2019, MIXED);
+    let mut text = vec![b'~'; written.len() + 3];
+    assert_eq!(write(&table, MIXED.lines().count(), &mut text), (0, written.len() as u32));
+    assert_eq!(String::from_utf8(text).unwrap(), written.to_owned() + "~~~");
+    for revision in BOTH {
+        assert_eq!(table_by(revision, written), table, "{revision:?}");
+    }
+}
+
+#[test]
+fn editing_by_2019_puts_in_a_one_digit_declaration() {
+    let cases = [
+        (3, "T1C0.6", (0, 3), (5, 3)),
+        (4, "T7C2", (0, 4), (5, 4)),
+        (3, "T2C0.5", (10, 7), (5, 3)),
+        (4, "T1C1.25", (9, 4), (5, 4)),
+        (3, "T0C1", (7, 3), (5, 3)),
+        (3, "T1C0", (7, 3), (5, 3)),
+        (8, "T1C1", (8, 8), (5, 8)),
+        (3, "T1C", (5, 3), (5, 3)),
+        (3, "T001C1", (5, 3), (5, 3)),
+        (3, "T00C1", (7, 3), (7, 3)),
+        (7, "T01", (0, 7), (0, 7)),
+        (9, "T7", (0, 9), (0, 9)),
+    ];
+    for (line, text, by_2019, by_2021) in cases {
+        assert_eq!(edited_by(Rev2019, line, text), by_2019, "{text}");
+        assert_eq!(edited_by(Rev2021, line, text), by_2021, "{text}");
+    }
+    let mut table = bench();
+    assert_eq!(edit(&mut table, BENCH_LINES, 3, b"T1C0.6", Rev2019), (0, 3));
+    assert_eq!(row(&table, 3), [4, 1, 0, 0, 600_000, 2, 1, 0, 0, 0, 0, 2, 0, 0, 0]);
+}
+
+#[test]
+fn a_table_read_by_one_revision_is_edited_by_the_other() {
+    let mut table = table_by(Rev2019, &bench_of_2019());
+    assert_eq!(edit(&mut table, BENCH_LINES, 3, b"T1C0.6", Rev2021), (5, 3));
+    assert_eq!(edit(&mut table, BENCH_LINES, 3, b"T01C0.6", Rev2021), (0, 3));
+    assert_eq!(table, table_of(&replaced(3, "T01C0.6")));
+    assert_eq!(edit(&mut table, BENCH_LINES, 3, b"T01C0.5", Rev2021), (0, 3));
+    // The span passes the rows that one-digit declarations were read to.
+    assert_eq!(edit(&mut table, BENCH_LINES, 2, b"INCH", Rev2021), (0, 15));
+    assert_eq!(table, table_of(&replaced(2, "INCH")));
+
+    let mut table = bench();
+    assert_eq!(edit(&mut table, BENCH_LINES, 4, b"T7C2", Rev2019), (0, 4));
+    assert_eq!(table, table_of(&replaced(4, "T07C2")));
+    assert_eq!(edit(&mut table, BENCH_LINES, 2, b"INCH", Rev2019), (0, 15));
+}
+
+#[test]
+fn moves_are_printed_by_one_revision() {
+    let expected = "span\t3\t3\ntool\t1\t500000\t600000\nmoved\t0\n";
+    let moves = |line: &str, file: &str, revision| {
+        String::from_utf8(print_moves(format!("{line}\n{file}").as_bytes(), revision)).unwrap()
+    };
+    for revision in BOTH {
+        assert_eq!(moves("3\tT01C0.6", BENCH, revision), expected, "{revision:?}");
+    }
+    assert_eq!(moves("3\tT1C0.6", BENCH, Rev2019), expected);
+    assert_eq!(moves("3\tT1C0.6", BENCH, Rev2021), "refused\t5\t3\n");
+    let older = replaced(3, "T1C0.5");
+    assert_eq!(moves("3\tT01C0.6", &older, Rev2019), expected);
+    assert_eq!(moves("3\tT01C0.6", &older, Rev2021), "refused\t5\t3\n");
 }

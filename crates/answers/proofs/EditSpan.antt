@@ -15,6 +15,7 @@ use Rattle.rules.specs.declared.Command.{Command}
 use Rattle.rules.specs.declared.State.{State}
 use Rattle.rules.specs.declared.Refusal.{Refusal}
 use Rattle.rules.specs.declared.Answer.the-variants.{Done}
+use Rattle.rules.specs.declared.Revision.{Revision}
 use Rattle.rules.specs.Refusals.{badTable, noSuchLine, holdsLineEnd, endsTooSoon}
 use Rattle.rules.specs.Commands.{lineOf}
 use Rattle.rules.specs.State.{taken, hasEnded, sameState}
@@ -46,7 +47,7 @@ pub record SpanOf (n k : ℕ) (s : Span Command State) : Type 0 where
   pub some : 1 ≤ length (s .rows)
   pub upto : k - 1 + length (s .rows) ≤ n
 
-module _ (es : List (Entry Command State)) (k : ℕ) (a : 1 ≤ k) (b : k ≤ length es) (l : List ℕ) where
+module _ (rev : Revision) (es : List (Entry Command State)) (k : ℕ) (a : 1 ≤ k) (b : k ≤ length es) (l : List ℕ) where
   Spans : Verdict (Span Command State) Refusal → Type 0
   Spans v = (s : Span Command State) → v ≡ accepted s → SpanOf (length es) k s
 
@@ -62,20 +63,20 @@ module _ (es : List (Entry Command State)) (k : ℕ) (a : 1 ≤ k) (b : k ≤ le
       let m : 1 ≤ length (s .rows) = subst SomeRows h (rerun-some p r (drop k es) (k - 1)) in
       record { counted = n .0; some = m; upto = omega (arith, n .1, length-drop k es) }
 
-  pub edit-spans : (s : Span Command State) → editRows es k l ≡ accepted s → SpanOf (length es) k s
+  pub edit-spans : (s : Span Command State) → editRows rev es k l ≡ accepted s → SpanOf (length es) k s
   unfolding editRows Spans
   edit-spans =
       before-all Spans (beforeLine k (entryAt es (k - 1))) (refused-spans badTable (k - 1))
       (λ p. before-all Spans (stateIn (entryAt es k)) (refused-spans badTable k)
-      (λ o. out-all Spans (sayOut (lineOf l)) (λ e _. refused-spans e k) (λ c _. rerun-spans p o c)))
+      (λ o. out-all Spans (sayOut (lineOf rev l)) (λ e _. refused-spans e k) (λ c _. rerun-spans p o c)))
 
 -- ---- the tests of an accepted edit
 
-pub record Edits (t : List ℤ) (n k : ℕ) (l : List ℕ) (s : Span Command State) : Type 0 where
+pub record Edits (rev : Revision) (t : List ℤ) (n k : ℕ) (l : List ℕ) (s : Span Command State) : Type 0 where
   pub sizes : sizesFit t n ≡ true
   pub line : isLine n k ≡ true
   pub no-end : noLineEnd l ≡ true
-  pub made : editRows (entriesOf n t) k l ≡ accepted s
+  pub made : editRows rev (entriesOf n t) k l ≡ accepted s
 
 -- a test before a verdict that was accepted
 accepted-by : (b : Bool) (v : Verdict (Span Command State) Refusal) (e : Refusal) (s : Span Command State)
@@ -83,13 +84,13 @@ accepted-by : (b : Bool) (v : Verdict (Span Command State) Refusal) (e : Refusal
 accepted-by true v e s h = (refl, h)
 accepted-by false v e s h = absurd (let z : _≡_ {A = ℕ} 0 1 = cc in omega arith)
 
-pub record EditDone (t : List ℤ) (n k : ℕ) (l : List ℕ) (m : ℕ) : Type 0 where
+pub record EditDone (rev : Revision) (t : List ℤ) (n k : ℕ) (l : List ℕ) (m : ℕ) : Type 0 where
   pub span : Span Command State
-  pub verdict : editOf t n k l ≡ accepted span
+  pub verdict : editOf rev t n k l ≡ accepted span
   pub meets : span .meeting ≡ m
 
-module _ (t : List ℤ) (n k : ℕ) (l : List ℕ) where
-  pub edit-tests : (s : Span Command State) → editOf t n k l ≡ accepted s → Edits t n k l s
+module _ (rev : Revision) (t : List ℤ) (n k : ℕ) (l : List ℕ) where
+  pub edit-tests : (s : Span Command State) → editOf rev t n k l ≡ accepted s → Edits rev t n k l s
   unfolding editOf
   edit-tests s h =
       let a = accepted-by (sizesFit t n) _ badTable s h in
@@ -97,10 +98,10 @@ module _ (t : List ℤ) (n k : ℕ) (l : List ℕ) where
       let c = accepted-by (noLineEnd l) _ holdsLineEnd s (b .1) in
       record { sizes = a .0; line = b .0; no-end = c .0; made = c .1 }
 
-  done-span : (m : ℕ) (v : Verdict (Span Command State) Refusal) → editOf t n k l ≡ v → meetingOf v ≡ Done m → EditDone t n k l m
+  done-span : (m : ℕ) (v : Verdict (Span Command State) Refusal) → editOf rev t n k l ≡ v → meetingOf v ≡ Done m → EditDone rev t n k l m
   done-span m (accepted s) e h = let d : s .meeting ≡ m = cc in record { span = s; verdict = e; meets = d }
   done-span m (refused e i) w h = absurd (let z : _≡_ {A = ℕ} 0 1 = cc in omega arith)
 
-  pub edit-done : (m : ℕ) → editAnswer t n k l ≡ Done m → EditDone t n k l m
+  pub edit-done : (m : ℕ) → editAnswer rev t n k l ≡ Done m → EditDone rev t n k l m
   unfolding editAnswer
-  edit-done m h = done-span m (editOf t n k l) refl h
+  edit-done m h = done-span m (editOf rev t n k l) refl h

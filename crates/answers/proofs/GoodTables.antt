@@ -9,6 +9,7 @@ use lib.IntN.{ℤ}
 use lib.ListN.{length, drop, length-append}
 use Rattle.runs.specs.Machine.{accepted, lastOf, Follows, StepBy}
 use Rattle.runs.proofs.Chains.{chain-follows}
+use Rattle.rules.specs.declared.Revision.{Revision}
 use Rattle.rules.specs.Numbers.{maxLines}
 use Rattle.rules.specs.State.{start, taken, hasEnded}
 use Rattle.rules.specs.Rows.{rowWidth, tableNumbers, Good}
@@ -37,10 +38,10 @@ rows-table rs rest ok few follows ends = record {
   ends = ends;
 }
 
-pub file-table : (bs : List ℕ) (rs : Rows) → fileOf bs ≡ accepted rs → (rest : List ℤ) → Good (tableNumbers rs ++ rest) (length rs) rs
-file-table bs rs h rest =
-    let a = file-accepts bs rs h in
-    rows-table rs rest (file-ok bs rs h) (file-few bs rs h) (chain-follows (a .reads)) (a .ends)
+pub file-table : (rev : Revision) (bs : List ℕ) (rs : Rows) → fileOf rev bs ≡ accepted rs → (rest : List ℤ) → Good (tableNumbers rs ++ rest) (length rs) rs
+file-table rev bs rs h rest =
+    let a = file-accepts rev bs rs h in
+    rows-table rs rest (file-ok rev bs rs h) (file-few rev bs rs h) (chain-follows (a .reads)) (a .ends)
 
 -- ---- a good table's rows
 

@@ -16,6 +16,7 @@ use Rattle.rules.specs.declared.HoleAnswer.{HoleAnswer}
 use Rattle.rules.specs.declared.HoleAnswer.the-variants as H
 use Rattle.rules.specs.declared.DiameterAnswer.{DiameterAnswer}
 use Rattle.rules.specs.declared.DiameterAnswer.the-variants as D
+use Rattle.rules.specs.declared.Revision.{Revision}
 use Rattle.rules.specs.Refusals.{fileTooLong, tooManyLines, lineNotEnded, lineTooLong, forbiddenByte, noSuchForm, outOfRange, wrongPhase, wrongMotion, declaredAlready, notDeclared, noToolSelected, impossibleArc, endsTooSoon, noSuchLine, holdsLineEnd, badTable}
 use Rattle.rules.specs.Numbers.{maxLines, isTool}
 use Rattle.rules.specs.Commands.{lineOf}
@@ -72,7 +73,7 @@ pub record OfRows (P : Refusal → ℕ → Type 0) (n : ℕ) : Type 0 where
 -- ---- a line
 
 module _ (P : Refusal → Type 0) (h : OfLine P) where
-  refused-of : {l : List ℕ} {e : Refusal} → LineRefused l e → P e
+  refused-of : {rev : Revision} {l : List ℕ} {e : Refusal} → LineRefused rev l e → P e
   refused-of (too-long n) = h .long
   refused-of (forbidden s n) = h .byte
   refused-of (no-form s p n) = h .form
@@ -102,14 +103,14 @@ pub record OfFile (P : Refusal → ℕ → Type 0) (i : ℕ) : Type 0 where
   pub short : P endsTooSoon i
 
 module _ (P : Refusal → ℕ → Type 0) (large : P fileTooLong 0) (lines : (i : ℕ) → i ≤ maxLines + 1 → OfFile P i) where
-  fault-of : {i : ℕ} {p : State} {bs : List ℕ} {e : Refusal} → OfFile P i → Fault i p bs e → P e i
+  fault-of : {rev : Revision} {i : ℕ} {p : State} {bs : List ℕ} {e : Refusal} → OfFile P i → Fault rev i p bs e → P e i
   fault-of h (missing d n) = h .short
   fault-of h (too-many m n) = h .many
   fault-of h (not-ended m n f) = h .unended
-  fault-of {i} h (unread n w r) = refused-of (λ e. P e i) (h .line) r
-  fault-of {i} h (untaken n w s u) = untaken-of (λ e. P e i) (h .step) u
+  fault-of {rev} {i} h (unread n w r) = refused-of (λ e. P e i) (h .line) r
+  fault-of {rev} {i} h (untaken n w s u) = untaken-of (λ e. P e i) (h .step) u
 
-  pub faulty-told : {bs : List ℕ} {e : Refusal} {i : ℕ} → Faulty bs e i → P e i
+  pub faulty-told : {rev : Revision} {bs : List ℕ} {e : Refusal} {i : ℕ} → Faulty rev bs e i → P e i
   faulty-told (too-large n) = large
   faulty-told (at-line {rs = rs} m d n w g f) = fault-of (lines (length rs + 1) (omega arith)) f
 
@@ -155,10 +156,10 @@ module _ (P : Refusal → ℕ → Type 0) (n : ℕ) where
 -- ---- the answers: the sizes are tested first, so a line after that is also one that a file may have
 
 module _ (P : Refusal → ℕ → Type 0) (t : List ℤ) (n : ℕ) (sizes : P badTable 0) where
-  pub edit-told : (k : ℕ) (l : List ℕ) → P noSuchLine 0 → P holdsLineEnd 0 → (n ≤ maxLines → OfRows P n) → (n ≤ maxLines → k ≤ n → OfLine (λ e. P e k))
-      → Told P (editOf t n k l)
+  pub edit-told : (rev : Revision) (k : ℕ) (l : List ℕ) → P noSuchLine 0 → P holdsLineEnd 0 → (n ≤ maxLines → OfRows P n) → (n ≤ maxLines → k ≤ n → OfLine (λ e. P e k))
+      → Told P (editOf rev t n k l)
   unfolding editOf editRows editFrom
-  edit-told k l a b rows line =
+  edit-told rev k l a b rows line =
       cond-all (Told P) (sizesFit t n)
       (λ s. cond-all (Told P) (isLine n k)
       (λ q. cond-all (Told P) (noLineEnd l)
@@ -169,7 +170,7 @@ module _ (P : Refusal → ℕ → Type 0) (t : List ℤ) (n : ℕ) (sizes : P ba
       let m = entries-length n t in
       before-all (Told P) (beforeLine k (entryAt (entriesOf n t) (k - 1))) (o .damaged (k - 1) (omega arith))
       (λ s. before-all (Told P) (stateIn (entryAt (entriesOf n t) k)) (o .damaged k (p .1))
-      (λ z. out-all (Told P) (sayOut (lineOf l)) (λ e d. refused-of (λ a. P a k) (line few (p .1)) (line-says l (stops e) .0 d))
+      (λ z. out-all (Told P) (sayOut (lineOf rev l)) (λ e d. refused-of (λ a. P a k) (line few (p .1)) (line-says rev l (stops e) .0 d))
       (λ c _. rerun-told P n o s (holds (record { command = c; state = z }) ∷ drop k (entriesOf n t)) (k - 1) (omega (arith, length-drop k (entriesOf n t)))))))
       (λ _. b)) (λ _. a)) (λ _. sizes)
 

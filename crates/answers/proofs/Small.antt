@@ -14,6 +14,7 @@ use Rattle.rules.specs.declared.Refusal.{Refusal}
 use Rattle.rules.specs.declared.Answer.{Answer}
 use Rattle.rules.specs.declared.Answer.the-variants.{Refused}
 use Rattle.rules.specs.declared.HoleAnswer.the-variants as H
+use Rattle.rules.specs.declared.Revision.{Revision}
 use Rattle.rules.specs.Numbers.{maxLines}
 use Rattle.rules.specs.Answers.{valueOf, said}
 use Rattle.rules.specs.Reading.{Rows, fileOf, hasRoom, inRoom, readAnswer}
@@ -47,45 +48,45 @@ module _ (b i : ℕ) (h : i ≤ b) where
 abbrev most : ℕ
 most = maxLines + 1
 
-module _ (bs : List ℕ) (t : List ℤ) where
-  of-file : (v : Verdict Rows Refusal) → fileOf bs ≡ v → valueOf (said (onVerdict v Refused (inRoom t))) ≤ most
+module _ (rev : Revision) (bs : List ℕ) (t : List ℤ) where
+  of-file : (v : Verdict Rows Refusal) → fileOf rev bs ≡ v → valueOf (said (onVerdict v Refused (inRoom t))) ≤ most
   unfolding Upto
   of-file (accepted rs) e =
-      cond-all (λ (a : Answer). valueOf (said a) ≤ most) (hasRoom t (length rs)) (λ _. omega (arith, file-few bs rs e)) (λ _. omega arith)
+      cond-all (λ (a : Answer). valueOf (said a) ≤ most) (hasRoom t (length rs)) (λ _. omega (arith, file-few rev bs rs e)) (λ _. omega arith)
   of-file (refused e i) d =
       faulty-told (Upto most) (omega arith)
       (λ j h. record { line = of-line most j h; step = of-step most j h; many = h; unended = h; short = h }) (refused-says bs e i .0 d)
 
-  pub read-small : valueOf (said (readAnswer bs t)) ≤ most
+  pub read-small : valueOf (said (readAnswer rev bs t)) ≤ most
   unfolding readAnswer
-  read-small = of-file (fileOf bs) refl
+  read-small = of-file (fileOf rev bs) refl
 
-module _ (t : List ℤ) (n k : ℕ) (l : List ℕ) where
-  edit-lines : Told (Upto most) (editOf t n k l)
+module _ (rev : Revision) (t : List ℤ) (n k : ℕ) (l : List ℕ) where
+  edit-lines : Told (Upto most) (editOf rev t n k l)
   unfolding Upto
   edit-lines =
-      edit-told (Upto most) t n (omega arith) k l (omega arith) (omega arith)
+      edit-told (Upto most) t n (omega arith) rev k l (omega arith) (omega arith)
       (λ h. record { steps = λ j m. of-step most j (omega arith); damaged = λ j m. omega arith; short = omega arith })
       (λ h m. of-line most k (omega arith))
 
   -- the span's lines, and the sizes that were tested before
-  pub span-of : (s : Span Command State) → editOf t n k l ≡ accepted s → SpanOf n k s
+  pub span-of : (s : Span Command State) → editOf rev t n k l ≡ accepted s → SpanOf n k s
   span-of s h =
-      let d = edit-tests t n k l s h in
+      let d = edit-tests rev t n k l s h in
       let p = line-says n k (d .line) in
       let c = entries-length n t in
-      subst (λ (j : ℕ). SpanOf j k s) c (edit-spans (entriesOf n t) k (p .0) (omega arith) l s (d .made))
+      subst (λ (j : ℕ). SpanOf j k s) c (edit-spans rev (entriesOf n t) k (p .0) (omega arith) l s (d .made))
 
-  of-edit : (v : Verdict (Span Command State) Refusal) → editOf t n k l ≡ v → Told (Upto most) v → valueOf (said (meetingOf v)) ≤ most
+  of-edit : (v : Verdict (Span Command State) Refusal) → editOf rev t n k l ≡ v → Told (Upto most) v → valueOf (said (meetingOf v)) ≤ most
   unfolding Upto
   of-edit (accepted s) e h =
       let z = span-of s e in
-      omega (arith, z .counted, z .upto, sizes-say t n (edit-tests t n k l s e .sizes) .few)
+      omega (arith, z .counted, z .upto, sizes-say t n (edit-tests rev t n k l s e .sizes) .few)
   of-edit (refused e i) d h = h
 
-  pub edit-small : valueOf (said (editAnswer t n k l)) ≤ most
+  pub edit-small : valueOf (said (editAnswer rev t n k l)) ≤ most
   unfolding editAnswer
-  edit-small = of-edit (editOf t n k l) refl edit-lines
+  edit-small = of-edit (editOf rev t n k l) refl edit-lines
 
 module _ (t : List ℤ) (n : ℕ) where
   module _ (b : List ℕ) where

@@ -13,6 +13,7 @@ use lib.Seq.{drop-cons}
 use Rattle.lists.specs.Words.{bytes, startsWith}
 use Rattle.rules.specs.declared.Command.the-variants as K
 use Rattle.rules.specs.declared.LineAnswer.{LineAnswer}
+use Rattle.rules.specs.declared.Revision.{Revision}
 use Rattle.rules.specs.Refusals.{noSuchForm}
 use Rattle.rules.specs.Commands.{Form, m48, metric, m15, m16, m30, Formed, is, no-form, atEnd, pointForm, formOf, says, saysNo, meaningOf, onForm, commandOf}
 use Rattle.command.specs.declared.Pointed.the-variants as P
@@ -30,14 +31,14 @@ NoneOf (v ∷ vs) b = NoneOf vs b × (b ≡ v → ⊥)
 
 -- ---- the first byte
 
-pub empty-line : (s : List ℕ) → length s ≡ 0 → saysNo noSuchForm ≡ commandOf s
+pub empty-line : (rev : Revision) (s : List ℕ) → length s ≡ 0 → saysNo noSuchForm ≡ commandOf rev s
 unfolding commandOf formOf startsWith
-empty-line [] h = refl
-empty-line (b ∷ l) h = absurd (omega arith)
+empty-line rev [] h = refl
+empty-line rev (b ∷ l) h = absurd (omega arith)
 
-no-letter : (b : ℕ) (l : List ℕ) → NoneOf (bytes "I;%TMGX") b → saysNo noSuchForm ≡ commandOf (b ∷ l)
+no-letter : (rev : Revision) (b : ℕ) (l : List ℕ) → NoneOf (bytes "I;%TMGX") b → saysNo noSuchForm ≡ commandOf rev (b ∷ l)
 unfolding commandOf formOf startsWith
-no-letter b l h =
+no-letter rev b l h =
     rw (
       ne-eqb b (code ";") (h .0 .1),
       ne-eqb b (code "M") (h .0 .0 .0 .0 .1),
@@ -48,20 +49,20 @@ no-letter b l h =
       ne-eqb b (code "X") (h .0 .0 .0 .0 .0 .0 .1),
     )
 
-module _ (s : List ℕ) (h : length s ≡ 0 → ⊥) where
+module _ (rev : Revision) (s : List ℕ) (h : length s ≡ 0 → ⊥) where
   first : {b : ℕ} → getD s 0 0 ≡ b → b ∷ drop 1 s ≡ s
   first e = sym (drop-cons s 0 0 (omega arith) ∙ ap (λ (z : ℕ). z ∷ drop 1 s) e)
 
-  pub first-is : {b : ℕ} → getD s 0 0 ≡ b → commandOf (b ∷ drop 1 s) ≡ commandOf s
-  first-is e = ap commandOf (first e)
+  pub first-is : {b : ℕ} → getD s 0 0 ≡ b → commandOf rev (b ∷ drop 1 s) ≡ commandOf rev s
+  first-is e = ap (commandOf rev) (first e)
 
   -- a hit's X belongs to its point
-  pub first-x : getD s 0 0 ≡ code "X" → onForm (pointForm (drop 0 s) (pointed P.Hit)) ≡ commandOf s
+  pub first-x : getD s 0 0 ≡ code "X" → onForm (pointForm (drop 0 s) (pointed P.Hit)) ≡ commandOf rev s
   unfolding commandOf formOf startsWith
-  first-x e = subst (λ (l : List ℕ). onForm (pointForm l (pointed P.Hit)) ≡ commandOf l) (first e) refl
+  first-x e = subst (λ (l : List ℕ). onForm (pointForm l (pointed P.Hit)) ≡ commandOf rev l) (first e) refl
 
-  pub first-other : NoneOf (bytes "I;%TMGX") (getD s 0 0) → saysNo noSuchForm ≡ commandOf s
-  first-other n = no-letter (getD s 0 0) (drop 1 s) n ∙ first-is refl
+  pub first-other : NoneOf (bytes "I;%TMGX") (getD s 0 0) → saysNo noSuchForm ≡ commandOf rev s
+  first-other n = no-letter rev (getD s 0 0) (drop 1 s) n ∙ first-is refl
 
 -- ---- M
 
@@ -74,21 +75,21 @@ code-by : (t : Bool) (f : Form) (k : Code) (x : Formed) (y : CodeRead) → meani
 code-by true f k x y e q = e
 code-by false f k x y e q = q
 
-m-two : (a b : ℕ) → commandOf (code "M" ∷ a ∷ b ∷ []) ≡ codeAnswer (codeOf a b)
+m-two : (rev : Revision) (a b : ℕ) → commandOf rev (code "M" ∷ a ∷ b ∷ []) ≡ codeAnswer (codeOf a b)
 unfolding commandOf formOf startsWith codeOf meaningOf
-m-two a b =
+m-two rev a b =
     simp (and-true, and-false)
     (code-by (eqb a (code "4") && eqb b (code "8")) m48 D.M48 _ _ refl
     (code-by (eqb a (code "1") && eqb b (code "5")) m15 D.M15 _ _ refl
     (code-by (eqb a (code "1") && eqb b (code "6")) m16 D.M16 _ _ refl
     (code-by (eqb a (code "3") && eqb b (code "0")) m30 D.M30 no-form M.None refl refl))))
 
-pub m-code : (s : List ℕ) → length s ≡ 3 → {r v : CodeRead} → r ≡ codeOf (getD s 1 0) (getD s 2 0) → r ≡ v → codeAnswer v ≡ commandOf (code "M" ∷ drop 1 s)
-m-code [] h e g = absurd (omega arith)
-m-code (x ∷ []) h e g = absurd (omega arith)
-m-code (x ∷ a ∷ []) h e g = absurd (omega arith)
-m-code (x ∷ a ∷ b ∷ []) h e g = ap codeAnswer (sym g ∙ e) ∙ sym (m-two a b)
-m-code (x ∷ a ∷ b ∷ d ∷ l) h e g = absurd (omega arith)
+pub m-code : (rev : Revision) (s : List ℕ) → length s ≡ 3 → {r v : CodeRead} → r ≡ codeOf (getD s 1 0) (getD s 2 0) → r ≡ v → codeAnswer v ≡ commandOf rev (code "M" ∷ drop 1 s)
+m-code rev [] h e g = absurd (omega arith)
+m-code rev (x ∷ []) h e g = absurd (omega arith)
+m-code rev (x ∷ a ∷ []) h e g = absurd (omega arith)
+m-code rev (x ∷ a ∷ b ∷ []) h e g = ap codeAnswer (sym g ∙ e) ∙ sym (m-two rev a b)
+m-code rev (x ∷ a ∷ b ∷ d ∷ l) h e g = absurd (omega arith)
 
 -- a line of more than three bytes is METRIC or no form: M48 isn't where METRIC can be
 cond-same : (t : Bool) (x : Formed) → cond t x x ≡ x
@@ -102,36 +103,36 @@ m-apart a x y z = go (ℕ-discrete a (code "4"))
     go (yes e) = rw (e, cond-same x no-form)
     go (no e) = rw (ne-eqb a (code "4") e)
 
-m-form : (s : List ℕ) → (length s ≡ 3 → ⊥)
-    → formOf (code "M" ∷ drop 1 s) ≡ cond (startsWith (drop 1 s) (bytes "ETRIC")) (atEnd (drop 5 (drop 1 s)) metric) no-form
+m-form : (rev : Revision) (s : List ℕ) → (length s ≡ 3 → ⊥)
+    → formOf rev (code "M" ∷ drop 1 s) ≡ cond (startsWith (drop 1 s) (bytes "ETRIC")) (atEnd (drop 5 (drop 1 s)) metric) no-form
 unfolding formOf startsWith
-m-form [] h = refl
-m-form (x ∷ []) h = refl
-m-form (x ∷ a ∷ []) h = simp and-false
-m-form (x ∷ a ∷ b ∷ []) h = absurd (h refl)
-m-form (x ∷ a ∷ b ∷ d ∷ l) h =
+m-form rev [] h = refl
+m-form rev (x ∷ []) h = refl
+m-form rev (x ∷ a ∷ []) h = simp and-false
+m-form rev (x ∷ a ∷ b ∷ []) h = absurd (h refl)
+m-form rev (x ∷ a ∷ b ∷ d ∷ l) h =
     simp cond-same (m-apart a (eqb b (code "8") && true) (eqb b (code "T") && (eqb d (code "R") && startsWith l (bytes "IC"))) (atEnd (drop 2 l) metric))
 
-pub m-word : (s : List ℕ) → (length s ≡ 3 → ⊥) → word (drop 1 s) (bytes "ETRIC") K.Metric ≡ commandOf (code "M" ∷ drop 1 s)
+pub m-word : (rev : Revision) (s : List ℕ) → (length s ≡ 3 → ⊥) → word (drop 1 s) (bytes "ETRIC") K.Metric ≡ commandOf rev (code "M" ∷ drop 1 s)
 unfolding commandOf meaningOf
-m-word s h = word-is (drop 1 s) (bytes "ETRIC") metric K.Metric refl ∙ ap onForm (sym (m-form s h))
+m-word rev s h = word-is (drop 1 s) (bytes "ETRIC") metric K.Metric refl ∙ ap onForm (sym (m-form rev s h))
 
 -- ---- G
 
-pub g-short : (s : List ℕ) → length s < 3 → saysNo noSuchForm ≡ commandOf (code "G" ∷ drop 1 s)
+pub g-short : (rev : Revision) (s : List ℕ) → length s < 3 → saysNo noSuchForm ≡ commandOf rev (code "G" ∷ drop 1 s)
 unfolding commandOf formOf startsWith
-g-short [] h = refl
-g-short (x ∷ []) h = refl
-g-short (x ∷ a ∷ []) h = simp and-false
-g-short (x ∷ a ∷ b ∷ l) h = absurd (omega arith)
+g-short rev [] h = refl
+g-short rev (x ∷ []) h = refl
+g-short rev (x ∷ a ∷ []) h = simp and-false
+g-short rev (x ∷ a ∷ b ∷ l) h = absurd (omega arith)
 
-no-zero : (a : ℕ) (l : List ℕ) → (a ≡ code "0" → ⊥) → saysNo noSuchForm ≡ commandOf (code "G" ∷ a ∷ l)
+no-zero : (rev : Revision) (a : ℕ) (l : List ℕ) → (a ≡ code "0" → ⊥) → saysNo noSuchForm ≡ commandOf rev (code "G" ∷ a ∷ l)
 unfolding commandOf formOf startsWith
-no-zero a l p = rw (ne-eqb a (code "0") p)
+no-zero rev a l p = rw (ne-eqb a (code "0") p)
 
-no-digit : (b : ℕ) (l : List ℕ) → NoneOf (bytes "53210") b → saysNo noSuchForm ≡ commandOf (code "G" ∷ code "0" ∷ b ∷ l)
+no-digit : (rev : Revision) (b : ℕ) (l : List ℕ) → NoneOf (bytes "53210") b → saysNo noSuchForm ≡ commandOf rev (code "G" ∷ code "0" ∷ b ∷ l)
 unfolding commandOf formOf startsWith
-no-digit b l h =
+no-digit rev b l h =
     rw (
       ne-eqb b (code "5") (h .1),
       ne-eqb b (code "0") (h .0 .0 .0 .0 .1),
@@ -140,15 +141,15 @@ no-digit b l h =
       ne-eqb b (code "3") (h .0 .1),
     )
 
-module _ (s : List ℕ) (h : 3 ≤ length s) where
+module _ (rev : Revision) (s : List ℕ) (h : 3 ≤ length s) where
   three : drop 1 s ≡ getD s 1 0 ∷ getD s 2 0 ∷ drop 3 s
   three = drop-cons s 1 0 (omega arith) ∙ ap (λ (l : List ℕ). getD s 1 0 ∷ l) (drop-cons s 2 0 (omega arith))
 
-  pub g-is : {a b : ℕ} → getD s 1 0 ≡ a → getD s 2 0 ≡ b → commandOf (code "G" ∷ a ∷ b ∷ drop 3 s) ≡ commandOf (code "G" ∷ drop 1 s)
+  pub g-is : {a b : ℕ} → getD s 1 0 ≡ a → getD s 2 0 ≡ b → commandOf rev (code "G" ∷ a ∷ b ∷ drop 3 s) ≡ commandOf rev (code "G" ∷ drop 1 s)
   g-is e q = rw (three, e, q)
 
-  pub g-no-zero : (getD s 1 0 ≡ code "0" → ⊥) → saysNo noSuchForm ≡ commandOf (code "G" ∷ drop 1 s)
-  g-no-zero p = no-zero (getD s 1 0) (getD s 2 0 ∷ drop 3 s) p ∙ g-is refl refl
+  pub g-no-zero : (getD s 1 0 ≡ code "0" → ⊥) → saysNo noSuchForm ≡ commandOf rev (code "G" ∷ drop 1 s)
+  g-no-zero p = no-zero rev (getD s 1 0) (getD s 2 0 ∷ drop 3 s) p ∙ g-is refl refl
 
-  pub g-no-digit : getD s 1 0 ≡ code "0" → NoneOf (bytes "53210") (getD s 2 0) → saysNo noSuchForm ≡ commandOf (code "G" ∷ drop 1 s)
-  g-no-digit z n = no-digit (getD s 2 0) (drop 3 s) n ∙ g-is z refl
+  pub g-no-digit : getD s 1 0 ≡ code "0" → NoneOf (bytes "53210") (getD s 2 0) → saysNo noSuchForm ≡ commandOf rev (code "G" ∷ drop 1 s)
+  g-no-digit z n = no-digit rev (getD s 2 0) (drop 3 s) n ∙ g-is z refl

@@ -2,17 +2,19 @@
 use mathlib.Core.Path.{_≡_, refl, sym, ap, _∙_}
 use mathlib.Core.Bool.{Bool, true, false, cond}
 use mathlib.Core.List.{List}
-use Prim.Native.Nat.{ℕ, _+_, _<_, _≤_}
+use Prim.Native.Nat.{ℕ, _+_, _-_, _≤_}
 use native.Mathlib.Omega.{arith}
-use borrow.Author.Tests.{le-leb, lt-leb, eq-eqb, ne-eqb}
+use borrow.Author.Tests.{le-leb}
 use lib.ListN.{length, drop}
 use lib.Seq.{drop-drop}
 use Rattle.lists.specs.Words.{bytes, startsWith}
 use Rattle.rules.specs.declared.Command.the-variants as K
 use Rattle.rules.specs.declared.LineAnswer.{LineAnswer}
+use Rattle.rules.specs.declared.Revision.{Revision}
 use Rattle.rules.specs.Refusals.{noSuchForm, outOfRange}
 use Rattle.rules.specs.Numbers.{maxTool, digitsOf, unsignedOf, isTool, isSize, millionths}
-use Rattle.rules.specs.Commands.{declare, select, atEnd, toolForm, says, saysNo, inRange, meaningOf, onForm}
+use Rattle.rules.specs.Commands.{fewestDeclared, fewestSelected, toolDigits, declare, select, atEnd, toolForm, says, saysNo, inRange, meaningOf, onForm}
+use Rattle.rules.proofs.Revisions.{fit-digits}
 use Rattle.number.specs.declared.Run.{Run}
 use Rattle.number.specs.declared.Written.{Written}
 use Rattle.number.specs.declared.Number.{Number}
@@ -65,50 +67,59 @@ module _ (s : List ℕ) (at t : ℕ) {r : Number} (e : r ≡ numberAt (length s)
 
 -- ---- T and its digits
 
-module _ (s : List ℕ) {t : Run} (e : t ≡ heldRun 1 0 (digitsOf (drop 1 s))) {c : Bool} (ec : c ≡ startsWith (drop (t .next) s) (bytes "C")) where
-  module _ (h : c ≡ true) where
-    pub declare-count : (t .next ≡ 3 → ⊥) → saysNo noSuchForm ≡ onForm (toolForm (drop 1 s))
-    unfolding toolForm
-    declare-count n = rw (run-rest s 1 0 e, sym ec ∙ h, ne-eqb (digitsOf (drop 1 s) .count) 2 (λ z. n (omega (arith, run-next s 1 0 e))))
+module _ (rev : Revision) (s : List ℕ) {t : Run} (e : t ≡ heldRun 1 0 (digitsOf (drop 1 s))) {c : Bool} (ec : c ≡ startsWith (drop (t .next) s) (bytes "C")) where
+  pub counted : t .next - 1 ≡ digitsOf (drop 1 s) .count
+  counted = omega (arith, run-next s 1 0 e)
 
-    pub declare-two : t .next ≡ 3 → onForm (declareAt (drop (t .next + 1) s) (t .value)) ≡ onForm (toolForm (drop 1 s))
+  counted-test : (fewest : ℕ) {v : Bool} → toolDigits fewest (t .next - 1) ≡ v → toolDigits fewest (digitsOf (drop 1 s) .count) ≡ v
+  counted-test fewest n = ap (toolDigits fewest) (sym counted) ∙ n
+
+  value : (fewest : ℕ) → toolDigits fewest (digitsOf (drop 1 s) .count) ≡ true → (t .value ≡ digitsOf (drop 1 s) .value) × (t .value ≤ maxTool)
+  value fewest h = short-run (drop 1 s) 1 t e (omega (arith, run-next s 1 0 e, fit-digits fewest (digitsOf (drop 1 s) .count) h .1))
+
+  module _ (h : c ≡ true) {f : ℕ} (ef : f ≡ fewestDeclared rev) where
+    declared : {v : Bool} → toolDigits f (t .next - 1) ≡ v → toolDigits (fewestDeclared rev) (digitsOf (drop 1 s) .count) ≡ v
+    declared n = ap (λ (z : ℕ). toolDigits z (digitsOf (drop 1 s) .count)) (sym ef) ∙ counted-test f n
+
+    pub declare-count : toolDigits f (t .next - 1) ≡ false → saysNo noSuchForm ≡ onForm (toolForm rev (drop 1 s))
     unfolding toolForm
-    declare-two n =
-        rw (run-rest s 1 0 e, sym ec ∙ h, eq-eqb (digitsOf (drop 1 s) .count) 2 (omega (arith, run-next s 1 0 e)), drop-drop 1 (t .next) s)
-        (ap (λ (v : ℕ). onForm (declareAt (drop (t .next + 1) s) v)) (short-run (drop 1 s) 1 t e (omega arith) .0))
+    declare-count n = rw (run-rest s 1 0 e, sym ec ∙ h, declared n)
+
+    pub declare-near : toolDigits f (t .next - 1) ≡ true → t .next ≤ 3
+    declare-near n = omega (arith, fit-digits f (t .next - 1) n .1)
+
+    pub declare-small : toolDigits f (t .next - 1) ≡ true → t .value ≤ maxTool
+    declare-small n = value (fewestDeclared rev) (declared n) .1
+
+    pub declare-fits : toolDigits f (t .next - 1) ≡ true → onForm (declareAt (drop (t .next + 1) s) (t .value)) ≡ onForm (toolForm rev (drop 1 s))
+    unfolding toolForm
+    declare-fits n =
+        rw (run-rest s 1 0 e, sym ec ∙ h, declared n, drop-drop 1 (t .next) s)
+        (ap (λ (v : ℕ). onForm (declareAt (drop (t .next + 1) s) v)) (value (fewestDeclared rev) (declared n) .0))
 
   module _ (h : c ≡ false) where
-    pub select-none : t .next ≡ 1 → saysNo noSuchForm ≡ onForm (toolForm (drop 1 s))
+    pub select-count : toolDigits fewestSelected (t .next - 1) ≡ false → saysNo noSuchForm ≡ onForm (toolForm rev (drop 1 s))
     unfolding toolForm
-    select-none n = rw (run-rest s 1 0 e, sym ec ∙ h, lt-leb 1 (digitsOf (drop 1 s) .count) (omega (arith, run-next s 1 0 e)))
+    select-count n = rw (run-rest s 1 0 e, sym ec ∙ h, counted-test fewestSelected n)
 
-    module _ (n : t .next ≡ 1 → ⊥) where
-      some : 1 ≤ digitsOf (drop 1 s) .count
-      some = omega (arith, run-next s 1 0 e)
+    module _ (n : toolDigits fewestSelected (t .next - 1) ≡ true) where
+      fits : toolDigits fewestSelected (digitsOf (drop 1 s) .count) ≡ true
+      fits = counted-test fewestSelected n
 
-      pub select-many : 3 < t .next → saysNo noSuchForm ≡ onForm (toolForm (drop 1 s))
+      selected : toolForm rev (drop 1 s) ≡ atEnd (drop (t .next) s) (select (t .value))
       unfolding toolForm
-      select-many m =
-          rw (run-rest s 1 0 e, sym ec ∙ h, le-leb 1 (digitsOf (drop 1 s) .count) some, lt-leb (digitsOf (drop 1 s) .count) 2 (omega (arith, run-next s 1 0 e)))
+      selected = rw (run-rest s 1 0 e, sym ec ∙ h, fits, value fewestSelected fits .0)
 
-      module _ (m : t .next ≤ 3) where
-        value : (t .value ≡ digitsOf (drop 1 s) .value) × (t .value ≤ maxTool)
-        value = short-run (drop 1 s) 1 t e (omega arith)
+      pub select-goes-on : (t .next ≡ length s → ⊥) → saysNo noSuchForm ≡ onForm (toolForm rev (drop 1 s))
+      select-goes-on g =
+          let some = fit-digits fewestSelected (digitsOf (drop 1 s) .count) fits .0 in
+          rw (selected, ended-no s (t .next) (select (t .value)) (omega (arith, run-next s 1 0 e, count-at s 1, some)) g)
 
-        selected : toolForm (drop 1 s) ≡ atEnd (drop (t .next) s) (select (t .value))
-        unfolding toolForm
-        selected =
-            let few : digitsOf (drop 1 s) .count ≤ 2 = omega (arith, run-next s 1 0 e) in
-            rw (run-rest s 1 0 e, sym ec ∙ h, le-leb 1 (digitsOf (drop 1 s) .count) some, le-leb (digitsOf (drop 1 s) .count) 2 few, value .0)
+      module _ (g : t .next ≡ length s) where
+        pub select-zero : t .value ≡ 0 → saysNo outOfRange ≡ onForm (toolForm rev (drop 1 s))
+        unfolding meaningOf inRange
+        select-zero z = rw (selected, ended-is s (t .next) (select (t .value)) g, no-tool (t .value) z)
 
-        pub select-goes-on : (t .next ≡ length s → ⊥) → saysNo noSuchForm ≡ onForm (toolForm (drop 1 s))
-        select-goes-on g = rw (selected, ended-no s (t .next) (select (t .value)) (omega (arith, run-next s 1 0 e, count-at s 1, some)) g)
-
-        module _ (g : t .next ≡ length s) where
-          pub select-zero : t .value ≡ 0 → saysNo outOfRange ≡ onForm (toolForm (drop 1 s))
-          unfolding meaningOf inRange
-          select-zero z = rw (selected, ended-is s (t .next) (select (t .value)) g, no-tool (t .value) z)
-
-          pub select-is : (t .value ≡ 0 → ⊥) → says (K.Select (t .value)) ≡ onForm (toolForm (drop 1 s))
-          unfolding meaningOf inRange
-          select-is z = rw (selected, ended-is s (t .next) (select (t .value)) g, is-tool (t .value) z (value .1))
+        pub select-is : (t .value ≡ 0 → ⊥) → says (K.Select (t .value)) ≡ onForm (toolForm rev (drop 1 s))
+        unfolding meaningOf inRange
+        select-is z = rw (selected, ended-is s (t .next) (select (t .value)) g, is-tool (t .value) z (value fewestSelected fits .1))

@@ -12,9 +12,10 @@ use Rattle.points.specs.declared.Arc.{Arc}
 use Rattle.rules.specs.declared.Command.{Command}
 use Rattle.rules.specs.declared.Command.the-variants as K
 use Rattle.rules.specs.declared.LineAnswer.{LineAnswer}
+use Rattle.rules.specs.declared.Revision.{Revision}
 use Rattle.rules.specs.Refusals.{noSuchForm}
 use Rattle.rules.specs.Numbers.{Decimal, onNumber, unsignedOf}
-use Rattle.rules.specs.Commands.{Form, declare, g00, hit, g01, g02, g03, Formed, no-form, atEnd, pointForm, says, saysNo}
+use Rattle.rules.specs.Commands.{Form, declare, g00, hit, g01, g02, g03, Formed, no-form, atEnd, pointForm, says, saysNo, commandOf}
 use Rattle.number.specs.declared.CoordinateRead.{CoordinateRead}
 use Rattle.number.specs.declared.CoordinateRead.the-variants as N
 use Rattle.number.specs.Capped.{HeldAs}
@@ -88,6 +89,11 @@ same (a ∷ l) (b ∷ w) = eqb a b && same l w
 
 abbrev pub word : List ℕ → List ℕ → Command → LineAnswer
 word l w c = cond (same l w) (says c) (saysNo noSuchForm)
+
+-- ---- lines that every revision reads alike
+
+abbrev pub ByEach : List ℕ → LineAnswer → Type 0
+ByEach l a = (rev : Revision) → a ≡ commandOf rev l
 
 -- ---- M and two digits
 

@@ -6,10 +6,10 @@ ghost use Prim.Native.Nat.{_≤_};
 ghost use lib.ListN.{drop};
 ghost use Rattle.lists.specs.Words.{bytes};
 ghost use Rattle.number.specs.Capped.{decimalOf, coordinateRead};
-ghost use Rattle.rules.specs.Commands.{pointForm, arcForm, toolForm, onForm, commandOf};
+ghost use Rattle.rules.specs.Commands.{pointForm, arcForm, fewestDeclared, toolDigits, toolForm, onForm, commandOf};
 ghost use Rattle.rules.specs.Numbers.{maxTool};
 ghost use Rattle.rules.specs.Commands as C;
-ghost use Rattle.command.specs.Parts.{PairAt, placed, pointed, pointCommand, turned, turnCommand, same, word, declareAt, codeOf, codeCommand};
+ghost use Rattle.command.specs.Parts.{PairAt, placed, pointed, pointCommand, turned, turnCommand, same, word, declareAt, ByEach, codeOf, codeCommand};
 use number::CoordinateRead;
 use number::Number;
 use number::SizeRead;
@@ -19,6 +19,13 @@ use points::Point;
 use rules::Command;
 use rules::LineAnswer;
 use rules::Refusal;
+use rules::Revision;
+
+// Of a tool number in a selection.
+const FEWEST_SELECTED: usize = 1;
+
+// Of any tool number.
+const MOST_DIGITS: usize = 2;
 
 // X, a number, Y, a number, as they are written.
 struct Pair {
@@ -202,23 +209,41 @@ fn declare_line(s: &[u8], at: usize, tool: u32) -> LineAnswer
     says(Command::Declare(tool, diameter))
 }
 
-// T, one or two digits; or T, two digits, C, a number. How many digits there are is form.
-fn tool_line(s: &[u8]) -> LineAnswer
-    ensures { λ r. ⌜ r ≡ onForm (toolForm (drop 1 (now (s .entry)))) ⌝ }
+// The fewest digits of a tool number in a declaration: all that a revision decides.
+fn fewest_declared(revision: Revision) -> usize
+    ensures { λ r. ⌜ r ≡ fewestDeclared revision ⌝ }
+{
+    match revision {
+        Revision::Rev2019 => 1,
+        Revision::Rev2021 => 2,
+    }
+}
+
+fn tool_digits(fewest: usize, digits: usize) -> bool
+    ensures { λ r. ⌜ r ≡ toolDigits fewest digits ⌝ }
+{
+    if digits < fewest {
+        return false;
+    }
+    digits <= MOST_DIGITS
+}
+
+// T, a tool number; or T, a tool number, C, a number. How many digits a tool number has is form.
+fn tool_line(s: &[u8], revision: Revision) -> LineAnswer
+    ensures { λ r. ⌜ r ≡ onForm (toolForm revision (drop 1 (now (s .entry)))) ⌝ }
 {
     let t = number::run_at(s, 1);
     let end = t.next;
+    let digits = end - 1;
     let value = t.value;
+    let fewest = fewest_declared(revision);
     if number::stands(s, end, b'C') {
-        if end != 3 {
+        if !tool_digits(fewest, digits) {
             return says_no(rules::NO_SUCH_FORM);
         }
         return declare_line(s, end + 1, value);
     }
-    if end == 1 {
-        return says_no(rules::NO_SUCH_FORM);
-    }
-    if 3 < end {
+    if !tool_digits(FEWEST_SELECTED, digits) {
         return says_no(rules::NO_SUCH_FORM);
     }
     if end != s.len() {
@@ -295,7 +320,7 @@ fn code_of(a: u8, b: u8) -> CodeRead
 
 // A line that begins with M.
 fn m_line(s: &[u8]) -> LineAnswer
-    ensures { λ r. ⌜ r ≡ commandOf (bytes "M" ++ drop 1 (now (s .entry))) ⌝ }
+    ensures { λ r. ⌜ ByEach (bytes "M" ++ drop 1 (now (s .entry))) r ⌝ }
 {
     if s.len() != 3 {
         return word_line(s, 1, b"ETRIC", Command::Metric);
@@ -308,7 +333,7 @@ fn m_line(s: &[u8]) -> LineAnswer
 
 // A line that begins with G.
 fn g_line(s: &[u8]) -> LineAnswer
-    ensures { λ r. ⌜ r ≡ commandOf (bytes "G" ++ drop 1 (now (s .entry))) ⌝ }
+    ensures { λ r. ⌜ ByEach (bytes "G" ++ drop 1 (now (s .entry))) r ⌝ }
 {
     if s.len() < 3 {
         return says_no(rules::NO_SUCH_FORM);
@@ -340,9 +365,9 @@ fn comment_line(s: &[u8]) -> LineAnswer
     says(Command::Comment)
 }
 
-/// What bytes without a line's end say: a command, or the refusal 5 or 7.
-pub fn read(s: &[u8]) -> LineAnswer
-    ensures { λ r. ⌜ r ≡ commandOf (now (s .entry)) ⌝ }
+/// What bytes without a line's end say by a revision: a command, or the refusal 5 or 7.
+pub fn read(s: &[u8], revision: Revision) -> LineAnswer
+    ensures { λ r. ⌜ r ≡ commandOf revision (now (s .entry)) ⌝ }
 {
     if s.len() == 0 {
         return says_no(rules::NO_SUCH_FORM);
@@ -351,7 +376,7 @@ pub fn read(s: &[u8]) -> LineAnswer
         b'X' => point_line(s, 0, Pointed::Hit),
         b'G' => g_line(s),
         b'M' => m_line(s),
-        b'T' => tool_line(s),
+        b'T' => tool_line(s, revision),
         b'%' => word_line(s, 1, b"", Command::Percent),
         b';' => comment_line(s),
         b'I' => word_line(s, 1, b"NCH", Command::Inch),

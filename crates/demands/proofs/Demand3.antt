@@ -16,6 +16,7 @@ use Rattle.rules.specs.declared.State.{State}
 use Rattle.rules.specs.declared.Refusal.{Refusal}
 use Rattle.rules.specs.declared.Answer.{Answer}
 use Rattle.rules.specs.declared.Answer.the-variants.{Done, Refused}
+use Rattle.rules.specs.declared.Revision.{Revision}
 use Rattle.rules.specs.Numbers.{maxFile}
 use Rattle.rules.specs.State.{start}
 use Rattle.rules.specs.Rows.{rowWidth, tableNumbers}
@@ -31,92 +32,92 @@ use Rattle.demands.proofs.EditIsReading.{withSpan, edit-is-reading, lin
 use Rattle.demands.proofs.EditTable.{table-again, edit-refuses, edit-accepts, edit-writes, new-length, same-outside}
 
 -- the table of an accepted file, whatever stands after its rows
-module _ {bs : List ℕ} {k : ℕ} (w : LineOf bs k) (rs : Rows) (read : fileOf bs ≡ accepted rs) (l : List ℕ) (hl : noLineEnd l ≡ true)
+module _ (rev : Revision) {bs : List ℕ} {k : ℕ} (w : LineOf bs k) (rs : Rows) (read : fileOf rev bs ≡ accepted rs) (l : List ℕ) (hl : noLineEnd l ≡ true)
     (hb : length (edited w l) ≤ maxFile) (rest : List ℤ) where
-  fresh : fileOf (edited w l) ≡ withSpan rs k (editRows (allHold rs) k l)
-  fresh = file-of (edited w l) hb ∙ edit-is-reading w rs (file-run bs rs read) l hl
+  fresh : fileOf rev (edited w l) ≡ withSpan rs k (editRows rev (allHold rs) k l)
+  fresh = file-of rev (edited w l) hb ∙ edit-is-reading rev w rs (file-run rev bs rs read) l hl
 
   from : 1 ≤ k
-  from = line-from w rs (file-run bs rs read) l hl
+  from = line-from rev w rs (file-run rev bs rs read) l hl
 
   upto : k ≤ length rs
-  upto = line-upto w rs (file-run bs rs read) l hl
+  upto = line-upto rev w rs (file-run rev bs rs read) l hl
 
   -- a table u, of which the edit's answer is a and the numbers it leaves v
   AsAfresh : List ℤ → List ℤ → Answer → Type 0
-  AsAfresh u v a = SameVerdict (length rs) a (readAnswer (edited w l) u) × (v ≡ readLeaves (edited w l) u) × SpanIs bs (edited w l) u v (length rs) k a
+  AsAfresh u v a = SameVerdict (length rs) a (readAnswer rev (edited w l) u) × (v ≡ readLeaves rev (edited w l) u) × SpanIs rev bs (edited w l) u v (length rs) k a
 
-  as-refused : (e : Refusal) (i : ℕ) → editRows (allHold rs) k l ≡ refused e i
+  as-refused : (e : Refusal) (i : ℕ) → editRows rev (allHold rs) k l ≡ refused e i
       → AsAfresh (tableNumbers rs ++ rest) (tableNumbers rs ++ rest) (Refused e i)
   unfolding AsAfresh
   as-refused e i h =
-      let r = read-refuses (edited w l) (tableNumbers rs ++ rest) e i (fresh ∙ ap (withSpan rs k) h) in
+      let r = read-refuses rev (edited w l) (tableNumbers rs ++ rest) e i (fresh ∙ ap (withSpan rs k) h) in
       (r .0, sym (r .1), refl)
 
-  as-accepted : (s : Span Command State) → editRows (allHold rs) k l ≡ accepted s
+  as-accepted : (s : Span Command State) → editRows rev (allHold rs) k l ≡ accepted s
       → AsAfresh (tableNumbers rs ++ rest) (tableNumbers (putAt rs (k - 1) (s .rows)) ++ rest) (Done (s .meeting))
   unfolding AsAfresh
   as-accepted s h =
       let new : Rows = putAt rs (k - 1) (s .rows) in
-      let f : fileOf (edited w l) ≡ accepted new = fresh ∙ ap (withSpan rs k) h in
+      let f : fileOf rev (edited w l) ≡ accepted new = fresh ∙ ap (withSpan rs k) h in
       let n : length new ≡ length rs
-      = new-length rs rest (file-ok bs rs read) (file-few bs rs read) k from upto l hl s h in
+      = new-length rev rs rest (file-ok rev bs rs read) (file-few rev bs rs read) k from upto l hl s h in
       let room : rowWidth * length new ≤ length (tableNumbers rs ++ rest) = omega (arith, n, table-length rs, length-append (tableNumbers rs) rest) in (
-        read-accepts (edited w l) (tableNumbers rs ++ rest) new f room ∙ ap Done n,
-        sym (read-writes (edited w l) (tableNumbers rs ++ rest) new f room ∙ table-again rs new rest n),
+        read-accepts rev (edited w l) (tableNumbers rs ++ rest) new f room ∙ ap Done n,
+        sym (read-writes rev (edited w l) (tableNumbers rs ++ rest) new f room ∙ table-again rs new rest n),
         (
-          record { old = rs; new = new; read-old = read; read-new = f; first = edit-agreement rs k from upto l s h },
-          same-outside rs rest (file-ok bs rs read) (file-few bs rs read) k from upto l hl s h (file-ok (edited w l) new f),
+          record { old = rs; new = new; read-old = read; read-new = f; first = edit-agreement rev rs k from upto l s h },
+          same-outside rev rs rest (file-ok rev bs rs read) (file-few rev bs rs read) k from upto l hl s h (file-ok rev (edited w l) new f),
         ),
       )
 
-  as-afresh : (v : Verdict (Span Command State) Refusal) → editRows (allHold rs) k l ≡ v
-      → AsAfresh (tableNumbers rs ++ rest) (editLeaves (tableNumbers rs ++ rest) (length rs) k l) (editAnswer (tableNumbers rs ++ rest) (length rs) k l)
+  as-afresh : (v : Verdict (Span Command State) Refusal) → editRows rev (allHold rs) k l ≡ v
+      → AsAfresh (tableNumbers rs ++ rest) (editLeaves rev (tableNumbers rs ++ rest) (length rs) k l) (editAnswer rev (tableNumbers rs ++ rest) (length rs) k l)
   as-afresh (refused e i) h =
-      let r = edit-refuses rs rest (file-ok bs rs read) (file-few bs rs read) k from upto l hl e i h in
+      let r = edit-refuses rev rs rest (file-ok rev bs rs read) (file-few rev bs rs read) k from upto l hl e i h in
       subst₂ (AsAfresh (tableNumbers rs ++ rest)) (sym (r .1)) (sym (r .0)) (as-refused e i h)
   as-afresh (accepted s) h =
       subst₂ (AsAfresh (tableNumbers rs ++ rest))
-      (sym (edit-writes rs rest (file-ok bs rs read) (file-few bs rs read) k from upto l hl s h))
-      (sym (edit-accepts rs rest (file-ok bs rs read) (file-few bs rs read) k from upto l hl s h))
+      (sym (edit-writes rev rs rest (file-ok rev bs rs read) (file-few rev bs rs read) k from upto l hl s h))
+      (sym (edit-accepts rev rs rest (file-ok rev bs rs read) (file-few rev bs rs read) k from upto l hl s h))
       (as-accepted s h)
 
-  whole : AsReadAfresh bs (edited w l) (tableNumbers rs ++ rest) (length rs) k l
+  whole : AsReadAfresh rev bs (edited w l) (tableNumbers rs ++ rest) (length rs) k l
   unfolding AsAfresh
-  whole = let a = as-afresh (editRows (allHold rs) k l) refl in record { verdict = a .0; table = a .1; span = a .2 }
+  whole = let a = as-afresh (editRows rev (allHold rs) k l) refl in record { verdict = a .0; table = a .1; span = a .2 }
 
 -- ---- a file that was read
 
-module _ (bs : List ℕ) (t : List ℤ) (n : ℕ) (h : readAnswer bs t ≡ Done n) where
+module _ (rev : Revision) (bs : List ℕ) (t : List ℤ) (n : ℕ) (h : readAnswer rev bs t ≡ Done n) where
   line : (k : ℕ) → 1 ≤ k → k ≤ n → LineOf bs k
-  line k a b = let d = read-done bs t n h in every-line bs (d .rows) (d .read) k a (omega (arith, d .counted))
+  line k a b = let d = read-done rev bs t n h in every-line rev bs (d .rows) (d .read) k a (omega (arith, d .counted))
 
   -- a line's number is told by an edit of it, the empty text for one
   no-other : (k : ℕ) → LineOf bs k → (1 ≤ k) × (k ≤ n)
   unfolding noLineEnd
   no-other k w =
-      let d = read-done bs t n h in
-      let r = file-run bs (d .rows) (d .read) in
-      (line-from w (d .rows) r [] refl, omega (arith, line-upto w (d .rows) r [] refl, d .counted))
+      let d = read-done rev bs t n h in
+      let r = file-run rev bs (d .rows) (d .read) in
+      (line-from rev w (d .rows) r [] refl, omega (arith, line-upto rev w (d .rows) r [] refl, d .counted))
 
-  as-read : (k : ℕ) (w : LineOf bs k) (l : List ℕ) → noLineEnd l ≡ true → length (edited w l) ≤ maxFile → AsReadAfresh bs (edited w l) (readLeaves bs t) n k l
+  as-read : (k : ℕ) (w : LineOf bs k) (l : List ℕ) → noLineEnd l ≡ true → length (edited w l) ≤ maxFile → AsReadAfresh rev bs (edited w l) (readLeaves rev bs t) n k l
   as-read k w l hl hb =
-      let d = read-done bs t n h in
-      subst₂ (λ (u : List ℤ) (m : ℕ). AsReadAfresh bs (edited w l) u m k l)
-      (sym (read-writes bs t (d .rows) (d .read) (d .room))) (d .counted)
-      (whole w (d .rows) (d .read) l hl hb (drop (0 + length (tableNumbers (d .rows))) t))
+      let d = read-done rev bs t n h in
+      subst₂ (λ (u : List ℤ) (m : ℕ). AsReadAfresh rev bs (edited w l) u m k l)
+      (sym (read-writes rev bs t (d .rows) (d .read) (d .room))) (d .counted)
+      (whole rev w (d .rows) (d .read) l hl hb (drop (0 + length (tableNumbers (d .rows))) t))
 
-meets-once : (old-file new-file : List ℕ) (k m n : ℕ) → MeetsAt old-file new-file k m → MeetsAt old-file new-file k n → m ≡ n
+meets-once : {rev : Revision} (old-file new-file : List ℕ) (k m n : ℕ) → MeetsAt rev old-file new-file k m → MeetsAt rev old-file new-file k n → m ≡ n
 meets-once old-file new-file k m n v w =
     let p : v .old ≡ w .old = let e = sym (v .read-old) ∙ w .read-old in cc in
     let q : v .new ≡ w .new = let e = sym (v .read-new) ∙ w .read-new in cc in
     one-meeting (subst₂ (λ (a b : Rows). FirstAgreement start a b k m) p q (v .first)) (w .first)
 
-pub demand-3 : Demand3
-demand-3 = record {
-  every-line = line;
-  no-other = no-other;
+pub demand-3 : (rev : Revision) → Demand3 rev
+demand-3 rev = record {
+  every-line = line rev;
+  no-other = no-other rev;
   one-edited = λ bs k v w l h. one-edited v w l h;
-  as-read-afresh = as-read;
+  as-read-afresh = as-read rev;
   one-meeting = meets-once;
 }

@@ -18,6 +18,7 @@ use Rattle.rules.specs.declared.Answer.the-variants.{Done}
 use Rattle.rules.specs.declared.HoleAnswer.the-variants as H
 use Rattle.rules.specs.declared.DiameterAnswer.{DiameterAnswer}
 use Rattle.rules.specs.declared.DiameterAnswer.the-variants.{Is, Refused}
+use Rattle.rules.specs.declared.Revision.{Revision}
 use Rattle.rules.specs.Refusals.{noSuchLine, outOfRange}
 use Rattle.rules.specs.Numbers.{maxTool, isTool}
 use Rattle.rules.specs.Ranges.{NumberOk, CommandOk}
@@ -108,31 +109,31 @@ module _ (t : List ℤ) (n : ℕ) (rs : Rows) (g : Good t n rs) where
 
 -- ---- an accepted edit
 
-module _ (tool k : ℕ) (l : List ℕ) (s : Span Command State) (new : (c : Command) → SpellsLine l c → LeavesTool tool c) where
-  diameter-here : (os : Rows) (r : Row Command State) (ys : Rows) → k ≡ length os + 1 → editRows (allHold (os ++ (r ∷ ys))) k l ≡ accepted s
+module _ {rev : Revision} (tool k : ℕ) (l : List ℕ) (s : Span Command State) (new : (c : Command) → SpellsLine rev l c → LeavesTool tool c) where
+  diameter-here : (os : Rows) (r : Row Command State) (ys : Rows) → k ≡ length os + 1 → editRows rev (allHold (os ++ (r ∷ ys))) k l ≡ accepted s
       → LeavesTool tool (r .command)
       → diameterBy tool (commandsOf (putAt (os ++ (r ∷ ys)) (length os) (s .rows))) ≡ diameterBy tool (commandsOf (os ++ (r ∷ ys)))
   unfolding commandsOf
   diameter-here os r ys e h old =
-      let m = edit-made os r ys k e l s h in
+      let m = edit-made rev os r ys k e l s h in
       ap (diameterBy tool) (splice-commands taken hasEnded start os r (m .command) ys (s .rows) (m .redone))
-      ∙ passed-over tool (commandsOf os) (commandsOf ys) (m .command) (new (m .command) (Lines.line-says l (yields (m .command)) .0 (m .said)))
+      ∙ passed-over tool (commandsOf os) (commandsOf ys) (m .command) (new (m .command) (Lines.line-says rev l (yields (m .command)) .0 (m .said)))
       ∙ sym (ap (diameterBy tool) (commands-append os (r ∷ ys)) ∙ passed-over tool (commandsOf os) (commandsOf ys) (r .command) old)
 
-  diameter-left : (rs : Rows) → 1 ≤ k → k ≤ length rs → editRows (allHold rs) k l ≡ accepted s → LeavesTool tool (rowOf rs k .command)
+  diameter-left : (rs : Rows) → 1 ≤ k → k ≤ length rs → editRows rev (allHold rs) k l ≡ accepted s → LeavesTool tool (rowOf rs k .command)
       → diameterBy tool (commandsOf (putAt rs (k - 1) (s .rows))) ≡ diameterBy tool (commandsOf rs)
   diameter-left rs a b =
-      around-line (λ z j. editRows (allHold z) k l ≡ accepted s → LeavesTool tool (getD z j noRow .command)
+      around-line (λ z j. editRows rev (allHold z) k l ≡ accepted s → LeavesTool tool (getD z j noRow .command)
       → diameterBy tool (commandsOf (putAt z j (s .rows))) ≡ diameterBy tool (commandsOf z)) rs k a b
       (λ os r ys e h old. diameter-here os r ys e h (subst (λ (z : _). LeavesTool tool (z .command)) (getD-append-seam os r ys noRow) old))
 
-after-edit : (t : List ℤ) (n : ℕ) (rs : Rows) → Good t n rs → (k : ℕ) (l : List ℕ) (m tool : ℕ) → editAnswer t n k l ≡ Done m
-    → LeavesTool tool (rowOf rs k .command) → ((c : Command) → SpellsLine l c → LeavesTool tool c)
-    → diameterAnswer (editLeaves t n k l) n tool ≡ diameterAnswer t n tool
-after-edit t n rs g k l m tool h old new =
-    let d = edit-done t n k l m h in
-    let e = edit-good t n rs g k l (d .span) (d .verdict) in
-    good-diameter (editLeaves t n k l) n (putAt rs (k - 1) (d .span .rows)) (e .good) tool
+after-edit : {rev : Revision} (t : List ℤ) (n : ℕ) (rs : Rows) → Good t n rs → (k : ℕ) (l : List ℕ) (m tool : ℕ) → editAnswer rev t n k l ≡ Done m
+    → LeavesTool tool (rowOf rs k .command) → ((c : Command) → SpellsLine rev l c → LeavesTool tool c)
+    → diameterAnswer (editLeaves rev t n k l) n tool ≡ diameterAnswer t n tool
+after-edit {rev} t n rs g k l m tool h old new =
+    let d = edit-done rev t n k l m h in
+    let e = edit-good rev t n rs g k l (d .span) (d .verdict) in
+    good-diameter (editLeaves rev t n k l) n (putAt rs (k - 1) (d .span .rows)) (e .good) tool
     ∙ ap (λ (a : DiameterAnswer). cond (isTool tool) a (Refused outOfRange 0))
     (diameter-left tool k l (d .span) new rs (e .from) (e .upto) (e .made) old)
     ∙ sym (good-diameter t n rs g tool)
@@ -146,10 +147,10 @@ diameters-stand = record {
     its-diameter = λ tool d j w. its-diameter t n rs g w;
     its-row = its-row t n rs g;
     of-holes = of-holes t n rs g;
-    after-edit = after-edit t n rs g;
+    after-edit = λ rev. after-edit t n rs g;
   };
-  afresh = λ bs t n h k w l hl hb.
-      let same = demand-3 .as-read-afresh bs t n h k w l hl hb .table in
+  afresh = λ rev bs t n h k w l hl hb.
+      let same = demand-3 rev .as-read-afresh bs t n h k w l hl hb .table in
       record {
         diameter = λ tool. ap (λ (u : List ℤ). diameterAnswer u n tool) same;
         hole = λ j. ap (λ (u : List ℤ). holeAnswer u n j) same;

@@ -16,6 +16,7 @@ use Rattle.runs.proofs.Edit.{Around, reads-around, last-append, edit-run, edit-
 use Rattle.rules.specs.declared.Command.{Command}
 use Rattle.rules.specs.declared.State.{State}
 use Rattle.rules.specs.declared.Refusal.{Refusal}
+use Rattle.rules.specs.declared.Revision.{Revision}
 use Rattle.rules.specs.Refusals.{badTable, endsTooSoon}
 use Rattle.rules.specs.Numbers.{maxLines}
 use Rattle.rules.specs.Lines.{Line, linesOf}
@@ -37,16 +38,16 @@ withSpan rs k (refused e i) = refused e i
 
 -- ---- the edited file
 
-module _ {bs : List ℕ} {k : ℕ} (w : LineOf bs k) (rs : Rows) (h : runOf (linesOf bs) ≡ accepted rs) (l : List ℕ) (hl : noLineEnd l ≡ true) where
+module _ (rev : Revision) {bs : List ℕ} {k : ℕ} (w : LineOf bs k) (rs : Rows) (h : runOf rev (linesOf bs) ≡ accepted rs) (l : List ℕ) (hl : noLineEnd l ≡ true) where
   xs : List Line
   xs = linesOf (w .before)
 
-  accepts : Accepts commandIn taken hasEnded start (xs ++ (lineWith (w .line) (w .here .ends) ∷ linesOf (w .after))) 0 rs
+  accepts : Accepts (commandIn rev) taken hasEnded start (xs ++ (lineWith (w .line) (w .here .ends) ∷ linesOf (w .after))) 0 rs
   unfolding runOf xs
-  accepts = run-reads commandIn taken hasEnded endsTooSoon start (xs ++ (lineWith (w .line) (w .here .ends) ∷ linesOf (w .after))) 0 rs (rw (lines-old w) at h)
+  accepts = run-reads (commandIn rev) taken hasEnded endsTooSoon start (xs ++ (lineWith (w .line) (w .here .ends) ∷ linesOf (w .after))) 0 rs (rw (lines-old w) at h)
 
-  rows : Around commandIn taken start xs (lineWith (w .line) (w .here .ends)) (linesOf (w .after)) 0 rs
-  rows = reads-around commandIn taken start xs (lineWith (w .line) (w .here .ends)) (linesOf (w .after)) 0 rs (accepts .reads)
+  rows : Around (commandIn rev) taken start xs (lineWith (w .line) (w .here .ends)) (linesOf (w .after)) 0 rs
+  rows = reads-around (commandIn rev) taken start xs (lineWith (w .line) (w .here .ends)) (linesOf (w .after)) 0 rs (accepts .reads)
 
   -- k by the lines before it, and by their rows
   by-lines : 0 + length xs + 1 ≡ k
@@ -57,7 +58,7 @@ module _ {bs : List ℕ} {k : ℕ} (w : LineOf bs k) (rs : Rows) (h : runOf (lin
   unfolding xs
   by-rows = omega (arith, line-number w, chain-length (rows .reads-first))
 
-  new-line : commandIn (0 + length xs + 1) (lineWith l (w .here .ends)) ≡ sayOut (lineOf l)
+  new-line : commandIn rev (0 + length xs + 1) (lineWith l (w .here .ends)) ≡ sayOut (lineOf rev l)
   unfolding commandIn answerIn
   new-line =
       rw (
@@ -71,34 +72,34 @@ module _ {bs : List ℕ} {k : ℕ} (w : LineOf bs k) (rs : Rows) (h : runOf (lin
 
   -- the run of the new lines as rows and a rerun, whole
   span-rows : (c : Command) (v : Verdict (Span Command State) Refusal)
-      → rerunWith (rows .first) (rows .here) (rows .rest) k by-rows l c ≡ v
+      → rerunWith rev (rows .first) (rows .here) (rows .rest) k by-rows l c ≡ v
       → befores (rows .first) (told (record { command = c; state = rows .here .state } ∷ rows .rest) v) ≡ withSpan rs k v
   span-rows c (refused a i) q = refl
   span-rows c (accepted s) q =
-      let m = rerun-redone (rows .first) (rows .here) (rows .rest) k by-rows l s c q in
+      let m = rerun-redone rev (rows .first) (rows .here) (rows .rest) k by-rows l s c q in
       let n : length (rows .first) ≡ k - 1 = omega (arith, by-rows) in
       ap accepted (splice-put taken hasEnded start (rows .first) (rows .here) c (rows .rest) (s .rows) (m .redone)
       ∙ ap₂ (λ (z : Rows) (j : ℕ). putAt z j (s .rows)) (sym (rows .parts)) n)
 
-  fresh-said : (x : Out Command Refusal) → sayOut (lineOf l) ≡ x
-      → runFrom start (xs ++ (lineWith l (w .here .ends) ∷ linesOf (w .after))) 0
-      ≡ withSpan rs k (onOut x (λ a. refused a k) (rerunWith (rows .first) (rows .here) (rows .rest) k by-rows l))
+  fresh-said : (x : Out Command Refusal) → sayOut (lineOf rev l) ≡ x
+      → runFrom rev start (xs ++ (lineWith l (w .here .ends) ∷ linesOf (w .after))) 0
+      ≡ withSpan rs k (onOut x (λ a. refused a k) (rerunWith rev (rows .first) (rows .here) (rows .rest) k by-rows l))
   fresh-said (stops a) u =
-      edit-unread commandIn taken sameState hasEnded endsTooSoon badTable (λ a b. same-state-iff a b .0) start xs (linesOf (w .after)) 0
+      edit-unread (commandIn rev) taken sameState hasEnded endsTooSoon badTable (λ a b. same-state-iff a b .0) start xs (linesOf (w .after)) 0
       (rows .first) (rows .rest) (rows .here .state) (rows .reads-first) (rows .reads-rest) ends (lineWith l (w .here .ends)) a (new-line ∙ u)
       ∙ ap (refused a) by-lines
   fresh-said (yields c) u =
       let n : 0 + length xs ≡ length (rows .first) = omega (arith, chain-length (rows .reads-first)) in
-      edit-run commandIn taken sameState hasEnded endsTooSoon badTable (λ a b. same-state-iff a b .0) start xs (linesOf (w .after)) 0
+      edit-run (commandIn rev) taken sameState hasEnded endsTooSoon badTable (λ a b. same-state-iff a b .0) start xs (linesOf (w .after)) 0
       (rows .first) (rows .rest) (rows .here .state) (rows .reads-first) (rows .reads-rest) ends (lineWith l (w .here .ends)) c (new-line ∙ u)
-      ∙ rw n (span-rows c (rerunWith (rows .first) (rows .here) (rows .rest) k by-rows l c) refl)
+      ∙ rw n (span-rows c (rerunWith rev (rows .first) (rows .here) (rows .rest) k by-rows l c) refl)
 
-  pub edit-is-reading : runOf (linesOf (edited w l)) ≡ withSpan rs k (editRows (allHold rs) k l)
+  pub edit-is-reading : runOf rev (linesOf (edited w l)) ≡ withSpan rs k (editRows rev (allHold rs) k l)
   unfolding runOf xs
   edit-is-reading =
-      ap (λ (z : List Line). runFrom start z 0) (lines-edited w l hl)
-      ∙ fresh-said (sayOut (lineOf l)) refl
-      ∙ ap (withSpan rs k) (sym (edit-rows (rows .first) (rows .here) (rows .rest) k by-rows l) ∙ ap (λ (z : Rows). editRows (allHold z) k l) (sym (rows .parts)))
+      ap (λ (z : List Line). runFrom rev start z 0) (lines-edited w l hl)
+      ∙ fresh-said (sayOut (lineOf rev l)) refl
+      ∙ ap (withSpan rs k) (sym (edit-rows rev (rows .first) (rows .here) (rows .rest) k by-rows l) ∙ ap (λ (z : Rows). editRows rev (allHold z) k l) (sym (rows .parts)))
 
   -- the old file's rows, as the edit finds them
   pub line-from : 1 ≤ k

@@ -21,6 +21,7 @@ use Rattle.rules.specs.declared.Refusal.{Refusal}
 use Rattle.rules.specs.declared.Before.{Before}
 use Rattle.rules.specs.declared.Before.the-variants.{From, Bad}
 use Rattle.rules.specs.declared.Answer.the-variants.{Done, Refused}
+use Rattle.rules.specs.declared.Revision.{Revision}
 use Rattle.rules.specs.Refusals.{endsTooSoon, noSuchLine, holdsLineEnd, badTable}
 use Rattle.rules.specs.Commands.{lineOf}
 use Rattle.rules.specs.State.{over, taken, hasEnded, sameState}
@@ -81,19 +82,19 @@ by-relation = unmet-map taken-takes
 by-machine : {p : State} {past new : Rows} → Unmet Takes p past new → Unmet (StepBy taken) p past new
 by-machine = unmet-map (λ p c q w. takes-taken w)
 
-module _ (t : List ℤ) (n k : ℕ) (l : List ℕ) where
+module _ (rev : Revision) (t : List ℤ) (n k : ℕ) (l : List ℕ) where
   EditSays : Verdict (Span Command State) Refusal → Type 0
-  EditSays (accepted s) = Meets t n k l (s .meeting)
-  EditSays (refused e i) = EditRefused t n k l e i
+  EditSays (accepted s) = Meets rev t n k l (s .meeting)
+  EditSays (refused e i) = EditRefused rev t n k l e i
 
   -- from the state p before line k, whose old row left the state o: the new line, and the rows from its command on
   abbrev newLine : State → State → Verdict (Span Command State) Refusal
-  newLine p o = onOut (sayOut (lineOf l)) (λ e. refused e k) (λ c. editFrom (entriesOf n t) k p o c)
+  newLine p o = onOut (sayOut (lineOf rev l)) (λ e. refused e k) (λ c. editFrom (entriesOf n t) k p o c)
 
   module _ {p : State} {old : Row Command State} (w : MayEdit t n k l p old) where
     -- ---- the new command and the rows after it
 
-    module _ (c : Command) (sp : SpellsLine l c) where
+    module _ (c : Command) (sp : SpellsLine rev l c) where
       -- rows that all are taken again reach the last line
       reaches-last : (rs : Rows) → rowsFrom t n k c old ≡ allHold rs → k - 1 + length rs ≡ n
       reaches-last rs d =
@@ -104,13 +105,13 @@ module _ (t : List ℤ) (n k : ℕ) (l : List ℕ) where
       unfolding EditSays EndsAt
       ends-says es v d (halted {new = new} {e = e} {j = j} u h m) =
           let z : k + length new ≡ j = omega (arith, m, w .line .from) in
-          subst (EditRefused t n k l e) z (rows w sp d (by-relation u) (halts-stop h))
+          subst (EditRefused rev t n k l e) z (rows w sp d (by-relation u) (halts-stop h))
       ends-says es v d (met {new = new} {r = r} left {s = s} u h m q) =
           let z : k + length new ≡ s .meeting = omega (arith, m, w .line .from) in
-          subst (Meets t n k l) z (agree left w sp d (by-relation u) (taken-takes (lastOf p new) (r .command) (r .state) h))
+          subst (Meets rev t n k l) z (agree left w sp d (by-relation u) (taken-takes (lastOf p new) (r .command) (r .state) h))
       ends-says es v d (past {old = rs} {new = new} {s = s} u h m q) =
           let z : n ≡ s .meeting = omega (arith, m, reaches-last rs d, unmet-length u) in
-          subst (Meets t n k l) z (last w sp d (by-relation u) (eqb-true (lastOf p new .phase) over h))
+          subst (Meets rev t n k l) z (last w sp d (by-relation u) (eqb-true (lastOf p new .phase) over h))
 
       rerun-says : EditSays (editFrom (entriesOf n t) k p (old .state) c)
       unfolding editFrom
@@ -118,27 +119,27 @@ module _ (t : List ℤ) (n k : ℕ) (l : List ℕ) where
 
     -- ---- the new line
 
-    line-told : (o : Out Command Refusal) → LineSays l o → EditSays (onOut o (λ e. refused e k) (λ c. editFrom (entriesOf n t) k p (old .state) c))
+    line-told : (o : Out Command Refusal) → LineSays rev l o → EditSays (onOut o (λ e. refused e k) (λ c. editFrom (entriesOf n t) k p (old .state) c))
     unfolding EditSays
     line-told (yields c) sp = rerun-says c sp
     line-told (stops e) r = new-line w r
 
     -- the edit comes so far
-    reached : editOf t n k l ≡ newLine p (old .state)
+    reached : editOf rev t n k l ≡ newLine p (old .state)
     unfolding editOf editRows
     reached =
         rw (sizes-fit t n (w .line .sizes), line-is n k (w .line .from) (w .line .upto), free-end (w .no-end), is-before t n k (w .before), w .row)
 
-    reached-command : (c : Command) → SpellsLine l c → editOf t n k l ≡ rerunFrom p (rowsFrom t n k c old) (k - 1)
+    reached-command : (c : Command) → SpellsLine rev l c → editOf rev t n k l ≡ rerunFrom p (rowsFrom t n k c old) (k - 1)
     unfolding editFrom
-    reached-command c sp = reached ∙ rw (line-says l (yields c) .1 sp)
+    reached-command c sp = reached ∙ rw (line-says rev l (yields c) .1 sp)
 
   -- ---- the rows before it and at it
 
   row-told : LineOfTable t n k → NoLineEnd l → {p : State} → StateBefore t n k p → (e : Entry Command State) → foundAt t n k ≡ e
       → EditSays (onBefore (stateIn e) (refused badTable k) (newLine p))
   unfolding EditSays
-  row-told a b s (holds r) d = line-told (record { line = a; no-end = b; before = s; row = d }) (sayOut (lineOf l)) (line-sound l)
+  row-told a b s (holds r) d = line-told (record { line = a; no-end = b; before = s; row = d }) (sayOut (lineOf rev l)) (line-sound rev l)
   row-told a b s bad d = row-itself a b s d
 
   before-told : LineOfTable t n k → NoLineEnd l → (x : Before) → BeforeIs t n k x
@@ -147,7 +148,7 @@ module _ (t : List ℤ) (n k : ℕ) (l : List ℕ) where
   before-told a b (From p) s = row-told a b s (foundAt t n k) refl
   before-told a b Bad s = row-before a b (s .0) (s .1)
 
-  edit-says : EditSays (editOf t n k l)
+  edit-says : EditSays (editOf rev t n k l)
   unfolding EditSays editOf editRows
   edit-says =
       cond-all EditSays (sizesFit t n) {b = refused badTable 0}
@@ -160,20 +161,20 @@ module _ (t : List ℤ) (n k : ℕ) (l : List ℕ) where
 
   -- ---- and the other way
 
-  refused-edit : {e : Refusal} {i : ℕ} → EditRefused t n k l e i → editOf t n k l ≡ refused e i
+  refused-edit : {e : Refusal} {i : ℕ} → EditRefused rev t n k l e i → editOf rev t n k l ≡ refused e i
   unfolding editOf editRows EndsAt
   refused-edit (sizes h) = rw (sizes-bad t n h)
   refused-edit (no-line z h) = rw (sizes-fit t n z, line-not t n k z h)
   refused-edit (line-end a h) = rw (sizes-fit t n (a .sizes), line-is n k (a .from) (a .upto), holds-end l h)
   refused-edit (row-before a b h d) = rw (sizes-fit t n (a .sizes), line-is n k (a .from) (a .upto), free-end b, bad-before t n k h d)
   refused-edit (row-itself a b s d) = rw (sizes-fit t n (a .sizes), line-is n k (a .from) (a .upto), free-end b, is-before t n k s, d)
-  refused-edit (new-line {e = e} w r) = reached w ∙ rw (line-says l (stops e) .1 r)
+  refused-edit (new-line {e = e} w r) = reached w ∙ rw (line-says rev l (stops e) .1 r)
   refused-edit (rows {p = p} {c = c} {new = new} {e = e} w sp d u h) =
       reached-command w c sp ∙ ap (λ (es : List (Entry Command State)). rerunFrom p es (k - 1)) d
       ∙ rerun-is p _ (k - 1) (refused e (k + length new)) .1
       (halted {j = k + length new} (by-machine u) (stops-halt h) (omega (arith, w .line .from)))
 
-  met-edit : {m : ℕ} → Meets t n k l m → (s : Span Command State) × (editOf t n k l ≡ accepted s) × (s .meeting ≡ m)
+  met-edit : {m : ℕ} → Meets rev t n k l m → (s : Span Command State) × (editOf rev t n k l ≡ accepted s) × (s .meeting ≡ m)
   unfolding EndsAt
   met-edit (agree {p = p} {c = c} {new = new} {r = r} left w sp d u h) =
       let s : Span Command State = record { meeting = k + length new; rows = new ++ (r ∷ []) } in (
@@ -193,25 +194,28 @@ module _ (t : List ℤ) (n k : ℕ) (l : List ℕ) where
 
   -- ---- the answer
 
-  why : (e : Refusal) (i : ℕ) (v : Verdict (Span Command State) Refusal) → EditSays v → meetingOf v ≡ Refused e i → EditRefused t n k l e i
+  why : (e : Refusal) (i : ℕ) (v : Verdict (Span Command State) Refusal) → EditSays v → meetingOf v ≡ Refused e i → EditRefused rev t n k l e i
   unfolding EditSays
   why e i (accepted s) w h = absurd (let z : _≡_ {A = ℕ} 0 1 = cc in omega arith)
   why e i (refused a j) w h =
       let x : a ≡ e = cc in
       let y : j ≡ i = cc in
-      subst₂ (EditRefused t n k l) x y w
+      subst₂ (EditRefused rev t n k l) x y w
 
-  where-met : (m : ℕ) (v : Verdict (Span Command State) Refusal) → EditSays v → meetingOf v ≡ Done m → Meets t n k l m
+  where-met : (m : ℕ) (v : Verdict (Span Command State) Refusal) → EditSays v → meetingOf v ≡ Done m → Meets rev t n k l m
   unfolding EditSays
-  where-met m (accepted s) w h = let x : s .meeting ≡ m = cc in subst (Meets t n k l) x w
+  where-met m (accepted s) w h = let x : s .meeting ≡ m = cc in subst (Meets rev t n k l) x w
   where-met m (refused a j) w h = absurd (let z : _≡_ {A = ℕ} 0 1 = cc in omega arith)
 
 pub edit-refused-exactly : EditRefusedExactly
 unfolding editAnswer
 edit-refused-exactly = record {
-  refused = λ t n k l e i. (λ h. why t n k l e i (editOf t n k l) (edit-says t n k l) h, λ w. ap meetingOf (refused-edit t n k l w));
-  done = λ t n k l m. (
-    λ h. where-met t n k l m (editOf t n k l) (edit-says t n k l) h,
-    λ w. let a = met-edit t n k l w in ap meetingOf (a .1) ∙ ap Done (a .2),
+  refused = λ rev t n k l e i. (
+    λ h. why rev t n k l e i (editOf rev t n k l) (edit-says rev t n k l) h,
+    λ w. ap meetingOf (refused-edit rev t n k l w),
+  );
+  done = λ rev t n k l m. (
+    λ h. where-met rev t n k l m (editOf rev t n k l) (edit-says rev t n k l) h,
+    λ w. let a = met-edit rev t n k l w in ap meetingOf (a .1) ∙ ap Done (a .2),
   );
 }

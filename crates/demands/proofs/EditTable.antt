@@ -17,6 +17,7 @@ use Rattle.rules.specs.declared.State.{State}
 use Rattle.rules.specs.declared.Refusal.{Refusal}
 use Rattle.rules.specs.declared.Answer.the-variants.{Done, Refused}
 use Rattle.rules.specs.declared.HoleAnswer.the-variants as H
+use Rattle.rules.specs.declared.Revision.{Revision}
 use Rattle.rules.specs.Refusals.{noSuchLine}
 use Rattle.rules.specs.Numbers.{maxLines}
 use Rattle.rules.specs.State.{start}
@@ -69,25 +70,25 @@ table-again rs ns rest e =
 
 -- ---- the edit of line k in a table of whole rows
 
-module _ (rs : Rows) (rest : List ℤ) (ok : RowsOk rs) (few : length rs ≤ maxLines) (k : ℕ) (a : 1 ≤ k) (b : k ≤ length rs) (l : List ℕ) (hl : noLineEnd l ≡ true) where
+module _ (rev : Revision) (rs : Rows) (rest : List ℤ) (ok : RowsOk rs) (few : length rs ≤ maxLines) (k : ℕ) (a : 1 ≤ k) (b : k ≤ length rs) (l : List ℕ) (hl : noLineEnd l ≡ true) where
   sizes : (ns : Rows) → length ns ≡ length rs → Sizes (tableNumbers ns ++ rest) (length rs)
   sizes ns e = record { some = omega arith; few = few; room = omega (arith, table-length ns, length-append (tableNumbers ns) rest) }
 
-  edit-of : editOf (tableNumbers rs ++ rest) (length rs) k l ≡ editRows (allHold rs) k l
+  edit-of : editOf rev (tableNumbers rs ++ rest) (length rs) k l ≡ editRows rev (allHold rs) k l
   unfolding editOf
   edit-of = rw (sizes-fit (tableNumbers rs ++ rest) (length rs) (sizes rs refl), line-is (length rs) k a b, hl, entries-table rs rest ok)
 
-  pub edit-refuses : (e : Refusal) (i : ℕ) → editRows (allHold rs) k l ≡ refused e i
-      → (editAnswer (tableNumbers rs ++ rest) (length rs) k l ≡ Refused e i) × (editLeaves (tableNumbers rs ++ rest) (length rs) k l ≡ tableNumbers rs ++ rest)
+  pub edit-refuses : (e : Refusal) (i : ℕ) → editRows rev (allHold rs) k l ≡ refused e i
+      → (editAnswer rev (tableNumbers rs ++ rest) (length rs) k l ≡ Refused e i) × (editLeaves rev (tableNumbers rs ++ rest) (length rs) k l ≡ tableNumbers rs ++ rest)
   unfolding editAnswer editLeaves
   edit-refuses e i h = (rw (edit-of, h), rw (edit-of, h))
 
-  module _ (s : Span Command State) (h : editRows (allHold rs) k l ≡ accepted s) where
+  module _ (s : Span Command State) (h : editRows rev (allHold rs) k l ≡ accepted s) where
     meets : FirstAgreement start rs (putAt rs (k - 1) (s .rows)) k (s .meeting)
-    meets = edit-agreement rs k a b l s h
+    meets = edit-agreement rev rs k a b l s h
 
     counted : s .meeting ≡ k - 1 + length (s .rows)
-    counted = edit-counted rs k a b l s h
+    counted = edit-counted rev rs k a b l s h
 
     inside : k - 1 + length (s .rows) ≤ length rs
     inside = omega (arith, counted, meets .upto)
@@ -95,11 +96,11 @@ module _ (rs : Rows) (rest : List ℤ) (ok : RowsOk rs) (few : length rs ≤ max
     pub new-length : length (putAt rs (k - 1) (s .rows)) ≡ length rs
     new-length = put-length rs (k - 1) (s .rows) inside
 
-    pub edit-accepts : editAnswer (tableNumbers rs ++ rest) (length rs) k l ≡ Done (s .meeting)
+    pub edit-accepts : editAnswer rev (tableNumbers rs ++ rest) (length rs) k l ≡ Done (s .meeting)
     unfolding editAnswer
     edit-accepts = rw (edit-of, h)
 
-    pub edit-writes : editLeaves (tableNumbers rs ++ rest) (length rs) k l ≡ tableNumbers (putAt rs (k - 1) (s .rows)) ++ rest
+    pub edit-writes : editLeaves rev (tableNumbers rs ++ rest) (length rs) k l ≡ tableNumbers (putAt rs (k - 1) (s .rows)) ++ rest
     unfolding editLeaves
     edit-writes = rw (edit-of, h) (table-put rs (s .rows) rest (k - 1) inside)
 

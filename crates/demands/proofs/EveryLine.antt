@@ -9,6 +9,7 @@ use lib.ListN.{length, getD, set}
 use lib.Seq.{getD-at}
 use Rattle.runs.specs.Machine.{accepted}
 use Rattle.runs.proofs.Chains.{chain-length}
+use Rattle.rules.specs.declared.Revision.{Revision}
 use Rattle.rules.specs.Lines.{LF, Line, emptyLine, linesOf, endsInCR, textOf, NoLF, AllEnded}
 use Rattle.rules.specs.Spelling.{LineEnd, lf, crlf}
 use Rattle.rules.specs.Reading.{Rows, fileOf}
@@ -61,10 +62,10 @@ line-at : (k : ℕ) (bs : List ℕ) → AllEnded (linesOf bs) → k < length (li
 line-at zero bs h n = line-in zero bs (linesOf bs) (first-of bs) h n (λ rest g j m. absurd (omega arith))
 line-at (suc k) bs h n = line-in (suc k) bs (linesOf bs) (first-of bs) h n (λ rest g j m. line-at k rest g m)
 
-pub every-line : (bs : List ℕ) (rs : Rows) → fileOf bs ≡ accepted rs → (k : ℕ) → 1 ≤ k → k ≤ length rs → LineOf bs k
-every-line bs rs h k a b =
+pub every-line : (rev : Revision) (bs : List ℕ) (rs : Rows) → fileOf rev bs ≡ accepted rs → (k : ℕ) → 1 ≤ k → k ≤ length rs → LineOf bs k
+every-line rev bs rs h k a b =
     let n : suc (k - 1) ≡ k = omega arith in
-    subst (LineOf bs) n (line-at (k - 1) bs (file-ended bs rs h) (omega (arith, chain-length (file-accepts bs rs h .reads))))
+    subst (LineOf bs) n (line-at (k - 1) bs (file-ended rev bs rs h) (omega (arith, chain-length (file-accepts rev bs rs h .reads))))
 
 -- ---- one edited file
 

@@ -11,6 +11,7 @@ use Rattle.lists.specs.Put.{putAt}
 use Rattle.runs.specs.Machine.{accepted, Row, allHold, Span, lastOf, Follows, StepBy}
 use Rattle.rules.specs.declared.Command.{Command}
 use Rattle.rules.specs.declared.State.{State}
+use Rattle.rules.specs.declared.Revision.{Revision}
 use Rattle.rules.specs.Numbers.{maxLines}
 use Rattle.rules.specs.State.{start, taken, hasEnded}
 use Rattle.rules.specs.Rows.{rowWidth, tableNumbers, Good}
@@ -28,63 +29,63 @@ use Rattle.demands.proofs.EditTable.{edit-writes, new-length}
 
 -- ---- the new rows are in range
 
-module _ (os : Rows) (r : Row Command State) (ys : Rows) (k : ℕ) (e : k ≡ length os + 1) (l : List ℕ) (s : Span Command State)
-    (ok : RowsOk (os ++ (r ∷ ys))) (h : editRows (allHold (os ++ (r ∷ ys))) k l ≡ accepted s) where
+module _ (rev : Revision) (os : Rows) (r : Row Command State) (ys : Rows) (k : ℕ) (e : k ≡ length os + 1) (l : List ℕ) (s : Span Command State)
+    (ok : RowsOk (os ++ (r ∷ ys))) (h : editRows rev (allHold (os ++ (r ∷ ys))) k l ≡ accepted s) where
   made-ok : RowsOk (putAt (os ++ (r ∷ ys)) (length os) (s .rows))
   made-ok =
-      let m = edit-made os r ys k e l s h in
+      let m = edit-made rev os r ys k e l s h in
       let rest = rows-rest os (r ∷ ys) ok in
       let new : RowsOk (s .rows)
-      = redone-ok (m .redone) (last-ok start os start-ok (rows-first os (r ∷ ys) ok)) (said-ok l (m .command) (m .said), rest .1, rest .2) in
+      = redone-ok (m .redone) (last-ok start os start-ok (rows-first os (r ∷ ys) ok)) (said-ok rev l (m .command) (m .said), rest .1, rest .2) in
       rows-append (take (length os) (os ++ (r ∷ ys)) ++ s .rows) (drop (length os + length (s .rows)) (os ++ (r ∷ ys)))
       (rows-append (take (length os) (os ++ (r ∷ ys))) (s .rows) (rows-take (length os) (os ++ (r ∷ ys)) ok) new)
       (rows-drop (length os + length (s .rows)) (os ++ (r ∷ ys)) ok)
 
-pub edit-ok : (rs : Rows) (k : ℕ) → 1 ≤ k → k ≤ length rs → (l : List ℕ) (s : Span Command State) → RowsOk rs → editRows (allHold rs) k l ≡ accepted s
+pub edit-ok : (rev : Revision) (rs : Rows) (k : ℕ) → 1 ≤ k → k ≤ length rs → (l : List ℕ) (s : Span Command State) → RowsOk rs → editRows rev (allHold rs) k l ≡ accepted s
     → RowsOk (putAt rs (k - 1) (s .rows))
-edit-ok rs k a b l s =
-    around-line (λ z j. RowsOk z → editRows (allHold z) k l ≡ accepted s → RowsOk (putAt z j (s .rows))) rs k a b
-    (λ os r ys e. made-ok os r ys k e l s)
+edit-ok rev rs k a b l s =
+    around-line (λ z j. RowsOk z → editRows rev (allHold z) k l ≡ accepted s → RowsOk (putAt z j (s .rows))) rs k a b
+    (λ os r ys e. made-ok rev os r ys k e l s)
 
 -- ---- the table that is left
 
-module _ (rs : Rows) (rest : List ℤ) (ok : RowsOk rs) (few : length rs ≤ maxLines) (follows : Follows (StepBy taken) start 0 rs) (ends : hasEnded (lastOf start rs) ≡ true)
-    (k : ℕ) (a : 1 ≤ k) (b : k ≤ length rs) (l : List ℕ) (hl : noLineEnd l ≡ true) (s : Span Command State) (h : editRows (allHold rs) k l ≡ accepted s) where
-  left-good : Good (editLeaves (tableNumbers rs ++ rest) (length rs) k l) (length rs) (putAt rs (k - 1) (s .rows))
+module _ (rev : Revision) (rs : Rows) (rest : List ℤ) (ok : RowsOk rs) (few : length rs ≤ maxLines) (follows : Follows (StepBy taken) start 0 rs) (ends : hasEnded (lastOf start rs) ≡ true)
+    (k : ℕ) (a : 1 ≤ k) (b : k ≤ length rs) (l : List ℕ) (hl : noLineEnd l ≡ true) (s : Span Command State) (h : editRows rev (allHold rs) k l ≡ accepted s) where
+  left-good : Good (editLeaves rev (tableNumbers rs ++ rest) (length rs) k l) (length rs) (putAt rs (k - 1) (s .rows))
   left-good =
       let new : Rows = putAt rs (k - 1) (s .rows) in
-      let n : length new ≡ length rs = new-length rs rest ok few k a b l hl s h in
-      let g = edit-follows rs k a b l s h follows ends in
+      let n : length new ≡ length rs = new-length rev rs rest ok few k a b l hl s h in
+      let g = edit-follows rev rs k a b l s h follows ends in
       subst₂ (λ (u : List ℤ) (j : ℕ). Good u j new)
-      (sym (edit-writes rs rest ok few k a b l hl s h)) n
-      (rows-table new rest (edit-ok rs k a b l s ok h) (omega (arith, n)) (g .follows) (g .ends))
+      (sym (edit-writes rev rs rest ok few k a b l hl s h)) n
+      (rows-table new rest (edit-ok rev rs k a b l s ok h) (omega (arith, n)) (g .follows) (g .ends))
 
 -- an accepted edit of a good table, with its span
-module _ (t : List ℤ) (n : ℕ) (rs : Rows) (g : Good t n rs) (k : ℕ) (l : List ℕ) where
+module _ (rev : Revision) (t : List ℤ) (n : ℕ) (rs : Rows) (g : Good t n rs) (k : ℕ) (l : List ℕ) where
   pub record GoodEdit (s : Span Command State) : Type 0 where
     pub from : 1 ≤ k
     pub upto : k ≤ length rs
-    pub made : editRows (allHold rs) k l ≡ accepted s
-    pub good : Good (editLeaves t n k l) n (putAt rs (k - 1) (s .rows))
+    pub made : editRows rev (allHold rs) k l ≡ accepted s
+    pub good : Good (editLeaves rev t n k l) n (putAt rs (k - 1) (s .rows))
 
-  pub edit-good : (s : Span Command State) → editOf t n k l ≡ accepted s → GoodEdit s
+  pub edit-good : (s : Span Command State) → editOf rev t n k l ≡ accepted s → GoodEdit s
   edit-good s h =
-      let e = edit-tests t n k l s h in
+      let e = edit-tests rev t n k l s h in
       let w = good-whole t n rs g in
       let p = line-says n k (e .line) in
       let b : k ≤ length rs = omega (arith, w .count, p .1) in
-      let made : editRows (allHold rs) k l ≡ accepted s = sym (ap (λ (es : _). editRows es k l) (g .found)) ∙ e .made in
+      let made : editRows rev (allHold rs) k l ≡ accepted s = sym (ap (λ (es : _). editRows rev es k l) (g .found)) ∙ e .made in
       record {
         from = p .0;
         upto = b;
         made = made;
-        good = subst₂ (λ (u : List ℤ) (j : ℕ). Good (editLeaves u j k l) j (putAt rs (k - 1) (s .rows))) (sym (w .numbers)) (w .count)
-            (left-good rs (drop (rowWidth * n) t) (w .rows .in-range) (w .rows .count) (g .follows) (g .ends) k (p .0) b l (e .no-end) s made);
+        good = subst₂ (λ (u : List ℤ) (j : ℕ). Good (editLeaves rev u j k l) j (putAt rs (k - 1) (s .rows))) (sym (w .numbers)) (w .count)
+            (left-good rev rs (drop (rowWidth * n) t) (w .rows .in-range) (w .rows .count) (g .follows) (g .ends) k (p .0) b l (e .no-end) s made);
       }
 
 pub good-stays : GoodStays
 good-stays = record {
-  stays = λ t n w k l m h.
-      let d = edit-done t n k l m h in
-      record { rows = putAt (w .rows) (k - 1) (d .span .rows); good = edit-good t n (w .rows) (w .good) k l (d .span) (d .verdict) .good };
+  stays = λ rev t n w k l m h.
+      let d = edit-done rev t n k l m h in
+      record { rows = putAt (w .rows) (k - 1) (d .span .rows); good = edit-good rev t n (w .rows) (w .good) k l (d .span) (d .verdict) .good };
 }

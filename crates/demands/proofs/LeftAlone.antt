@@ -16,6 +16,7 @@ use Rattle.rules.specs.declared.Command.{Command}
 use Rattle.rules.specs.declared.State.{State}
 use Rattle.rules.specs.declared.Refusal.{Refusal}
 use Rattle.rules.specs.declared.Answer.the-variants.{Done, Refused}
+use Rattle.rules.specs.declared.Revision.{Revision}
 use Rattle.rules.specs.Refusals.{noRoom, badTable}
 use Rattle.rules.specs.Numbers.{maxLines}
 use Rattle.rules.specs.Rows.{rowWidth, tableNumbers}
@@ -40,8 +41,8 @@ use Rattle.demands.specs.Demand1.{among, OnLine, readRefusals, editRefus
 abbrev InRead : Refusal → ℕ → Type 0
 InRead e i = (among readRefusals (e .number) ≡ true) × (i ≤ maxLines + 1)
 
-file-refusals : (bs : List ℕ) (e : Refusal) (i : ℕ) → fileOf bs ≡ refused e i → InRead e i
-file-refusals bs e i h =
+file-refusals : (rev : Revision) (bs : List ℕ) (e : Refusal) (i : ℕ) → fileOf rev bs ≡ refused e i → InRead e i
+file-refusals rev bs e i h =
     faulty-told InRead (refl, omega arith)
     (λ j n. record {
       line = record { long = (refl, n); byte = (refl, n); form = (refl, n); range = (refl, n) };
@@ -51,24 +52,24 @@ file-refusals bs e i h =
       short = (refl, n);
     }) (refused-says bs e i .0 h)
 
-module _ (bs : List ℕ) (t : List ℤ) where
+module _ (rev : Revision) (bs : List ℕ) (t : List ℤ) where
   no-room : (rs : Rows) (e : Refusal) (i : ℕ) (b : Bool) → cond b (Done (length rs)) (Refused noRoom 0) ≡ Refused e i
       → (cond b (putAt t 0 (tableNumbers rs)) t ≡ t) × InRead e i
   no-room rs e i true h = absurd (let z : _≡_ {A = ℕ} 0 1 = cc in omega arith)
   no-room rs e i false h = let d : noRoom ≡ e = cc in let z : 0 ≡ i = cc in (refl, subst₂ InRead d z (refl, omega arith))
 
-  not-read : (e : Refusal) (i : ℕ) (v : Verdict Rows Refusal) → fileOf bs ≡ v → onVerdict v Refused (inRoom t) ≡ Refused e i
+  not-read : (e : Refusal) (i : ℕ) (v : Verdict Rows Refusal) → fileOf rev bs ≡ v → onVerdict v Refused (inRoom t) ≡ Refused e i
       → (onVerdict v (λ e i. t) (withRows t) ≡ t) × InRead e i
   not-read e i (accepted rs) w h = no-room rs e i (hasRoom t (length rs)) h
   not-read e i (refused a j) w h =
       let d : a ≡ e = cc in
       let z : j ≡ i = cc in
-      (refl, subst₂ InRead d z (file-refusals bs a j w))
+      (refl, subst₂ InRead d z (file-refusals rev bs a j w))
 
-  read-beyond : (n : ℕ) → readAnswer bs t ≡ Done n → drop (rowWidth * n) (readLeaves bs t) ≡ drop (rowWidth * n) t
+  read-beyond : (n : ℕ) → readAnswer rev bs t ≡ Done n → drop (rowWidth * n) (readLeaves rev bs t) ≡ drop (rowWidth * n) t
   read-beyond n h =
-      let d = read-done bs t n h in
-      ap (drop (rowWidth * n)) (read-writes bs t (d .rows) (d .read) (d .room))
+      let d = read-done rev bs t n h in
+      ap (drop (rowWidth * n)) (read-writes rev bs t (d .rows) (d .read) (d .room))
       ∙ put-after t 0 (rowWidth * n) (tableNumbers (d .rows)) (omega (arith, table-length (d .rows), d .counted)) (omega (arith, d .room, d .counted))
 
   room-kept : (rs : Rows) (b : Bool) → hasRoom t (length rs) ≡ b → length (cond b (putAt t 0 (tableNumbers rs)) t) ≡ length t
@@ -79,13 +80,13 @@ module _ (bs : List ℕ) (t : List ℤ) where
   read-length (accepted rs) = room-kept rs (hasRoom t (length rs)) refl
   read-length (refused e i) = refl
 
-  pub read-rest : ReadLeavesRest bs t
+  pub read-rest : ReadLeavesRest rev bs t
   unfolding readAnswer readLeaves
   read-rest = record {
-    refused = λ e i h. let w = not-read e i (fileOf bs) refl h in (w .0, w .1 .0, w .1 .1);
-    inside = λ n h. let d = read-done bs t n h in (omega (arith, file-few bs (d .rows) (d .read), d .counted), omega (arith, d .room, d .counted));
+    refused = λ e i h. let w = not-read e i (fileOf rev bs) refl h in (w .0, w .1 .0, w .1 .1);
+    inside = λ n h. let d = read-done rev bs t n h in (omega (arith, file-few rev bs (d .rows) (d .read), d .counted), omega (arith, d .room, d .counted));
     beyond = read-beyond;
-    as-many = read-length (fileOf bs);
+    as-many = read-length (fileOf rev bs);
   }
 
 -- ---- editing
@@ -93,11 +94,11 @@ module _ (bs : List ℕ) (t : List ℤ) where
 abbrev InEdit : ℕ → Refusal → ℕ → Type 0
 InEdit n e i = (among editRefusals (e .number) ≡ true) × OnLine (n + 1) (maxLines + 1) i
 
-module _ (t : List ℤ) (n k : ℕ) (l : List ℕ) where
-  edit-refusals : Told (InEdit n) (editOf t n k l)
+module _ (rev : Revision) (t : List ℤ) (n k : ℕ) (l : List ℕ) where
+  edit-refusals : Told (InEdit n) (editOf rev t n k l)
   edit-refusals =
       let z : OnLine (n + 1) (maxLines + 1) 0 = (omega arith, omega arith) in
-      edit-told (InEdit n) t n (refl, z) k l (refl, z) (refl, z)
+      edit-told (InEdit n) t n (refl, z) rev k l (refl, z) (refl, z)
       (λ h. record {
         steps = λ j m. let o : OnLine (n + 1) (maxLines + 1) j = (omega arith, omega arith) in
             record { phase = (refl, o); motion = (refl, o); again = (refl, o); undeclared = (refl, o); unselected = (refl, o); arc = (refl, o) };
@@ -111,7 +112,7 @@ module _ (t : List ℤ) (n k : ℕ) (l : List ℕ) where
   not-edited e i (accepted s) w h = absurd (let z : _≡_ {A = ℕ} 0 1 = cc in omega arith)
   not-edited e i (refused a j) w h = let d : a ≡ e = cc in let z : j ≡ i = cc in (refl, subst₂ (InEdit n) d z w)
 
-  module _ (s : Span Command State) (h : editOf t n k l ≡ accepted s) where
+  module _ (s : Span Command State) (h : editOf rev t n k l ≡ accepted s) where
     -- the span's rows stand inside
     record Inside : Type 0 where
       first : 1 ≤ k
@@ -122,21 +123,21 @@ module _ (t : List ℤ) (n k : ℕ) (l : List ℕ) where
 
     inside : Inside
     inside =
-        let d = edit-tests t n k l s h in
+        let d = edit-tests rev t n k l s h in
         let p = line-says n k (d .line) in
-        let z = span-of t n k l s h in
+        let z = span-of rev t n k l s h in
         record { first = p .0; span = z; few = sizes-say t n (d .sizes) .few; room = sizes-say t n (d .sizes) .room; end = omega (arith, table-length (s .rows), z .counted) }
 
-    edit-left : editLeaves t n k l ≡ putAt t (rowWidth * (k - 1)) (tableNumbers (s .rows))
+    edit-left : editLeaves rev t n k l ≡ putAt t (rowWidth * (k - 1)) (tableNumbers (s .rows))
     unfolding editLeaves
     edit-left = rw h
 
-    edit-before : take (rowWidth * (k - 1)) (editLeaves t n k l) ≡ take (rowWidth * (k - 1)) t
+    edit-before : take (rowWidth * (k - 1)) (editLeaves rev t n k l) ≡ take (rowWidth * (k - 1)) t
     edit-before =
         let c = inside in
         ap (take (rowWidth * (k - 1))) edit-left ∙ put-before t (rowWidth * (k - 1)) (tableNumbers (s .rows)) (omega (arith, c .span .upto, c .room))
 
-    edit-after : drop (rowWidth * (s .meeting)) (editLeaves t n k l) ≡ drop (rowWidth * (s .meeting)) t
+    edit-after : drop (rowWidth * (s .meeting)) (editLeaves rev t n k l) ≡ drop (rowWidth * (s .meeting)) t
     edit-after =
         let c = inside in
         ap (drop (rowWidth * (s .meeting))) edit-left
@@ -147,23 +148,23 @@ module _ (t : List ℤ) (n k : ℕ) (l : List ℕ) where
         let c = inside in
         put-length t (rowWidth * (k - 1)) (tableNumbers (s .rows)) (omega (arith, c .end, c .span .counted, c .span .upto, c .room))
 
-  edit-length : (v : Verdict (Span Command State) Refusal) → editOf t n k l ≡ v
+  edit-length : (v : Verdict (Span Command State) Refusal) → editOf rev t n k l ≡ v
       → length (leavesOf t k v) ≡ length t
   edit-length (accepted s) h = edit-kept s h
   edit-length (refused e i) h = refl
 
-  pub edit-rest : EditLeavesRest t n k l
+  pub edit-rest : EditLeavesRest rev t n k l
   unfolding editAnswer editLeaves
   edit-rest = record {
-    refused = λ e i h. let w = not-edited e i (editOf t n k l) edit-refusals h in (w .0, w .1 .0, w .1 .1);
+    refused = λ e i h. let w = not-edited e i (editOf rev t n k l) edit-refusals h in (w .0, w .1 .0, w .1 .1);
     inside = λ m h.
-        let d = edit-done t n k l m h in
+        let d = edit-done rev t n k l m h in
         let c = inside (d .span) (d .verdict) in
         (c .first, omega (arith, c .span .counted, c .span .some, d .meets), omega (arith, c .span .counted, c .span .upto, d .meets), c .few, c .room);
-    before = λ m h. let d = edit-done t n k l m h in edit-before (d .span) (d .verdict);
-    after = λ m h. let d = edit-done t n k l m h in
-        subst (λ (j : ℕ). drop (rowWidth * j) (editLeaves t n k l) ≡ drop (rowWidth * j) t) (d .meets) (edit-after (d .span) (d .verdict));
-    as-many = edit-length (editOf t n k l) refl;
+    before = λ m h. let d = edit-done rev t n k l m h in edit-before (d .span) (d .verdict);
+    after = λ m h. let d = edit-done rev t n k l m h in
+        subst (λ (j : ℕ). drop (rowWidth * j) (editLeaves rev t n k l) ≡ drop (rowWidth * j) t) (d .meets) (edit-after (d .span) (d .verdict));
+    as-many = edit-length (editOf rev t n k l) refl;
   }
 
 -- ---- writing

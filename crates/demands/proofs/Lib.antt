@@ -17,3 +17,6 @@ pub mod HoleRefused
 pub mod EditRefused
 pub mod OneSpelling
 pub mod BenchFile
+pub mod OneDigit
+pub mod OlderAccepts
+pub mod ReadsBackByEither

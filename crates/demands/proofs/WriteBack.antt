@@ -8,6 +8,7 @@ use lib.IntN.{ℤ}
 use lib.ListN.{length, take, drop}
 use Rattle.lists.specs.Put.{putAt}
 use Rattle.lists.proofs.Put.{put-at}
+use Rattle.rules.specs.declared.Revision.{Revision}
 use Rattle.rules.specs.Lines.{linesOf}
 use Rattle.rules.specs.Rows.{rowWidth, tableNumbers, Good}
 use Rattle.rules.specs.Reading.{Rows, readLeaves}
@@ -38,31 +39,31 @@ good-writes t n rs g b h =
     let w = write-writes t n b rs e h in
     record { answer = write-accepts t n b rs e h; text = w; found = ap (take (length (textOfRows rs))) w ∙ put-at b 0 (textOfRows rs) (omega arith) }
 
-module _ (rs : Rows) (g : GoodRows rs) (u : List ℤ) (h : rowWidth * length (withoutComments rs) ≤ length u) where
-  left : readLeaves (textOfRows rs) u ≡ putAt u 0 (tableNumbers (withoutComments rs))
-  left = read-writes (textOfRows rs) u (withoutComments rs) (file-back rs g) h
+module _ (rev : Revision) (rs : Rows) (g : GoodRows rs) (u : List ℤ) (h : rowWidth * length (withoutComments rs) ≤ length u) where
+  left : readLeaves rev (textOfRows rs) u ≡ putAt u 0 (tableNumbers (withoutComments rs))
+  left = read-writes rev (textOfRows rs) u (withoutComments rs) (file-back rev rs g) h
 
-  back-good : Good (readLeaves (textOfRows rs) u) (length (withoutComments rs)) (withoutComments rs)
+  back-good : Good (readLeaves rev (textOfRows rs) u) (length (withoutComments rs)) (withoutComments rs)
   back-good =
       subst (λ (z : List ℤ). Good z (length (withoutComments rs)) (withoutComments rs)) (sym left)
-      (file-table (textOfRows rs) (withoutComments rs) (file-back rs g) (drop (0 + length (tableNumbers (withoutComments rs))) u))
+      (file-table rev (textOfRows rs) (withoutComments rs) (file-back rev rs g) (drop (0 + length (tableNumbers (withoutComments rs))) u))
 
-  again : (b : List ℕ) → length (textOfRows rs) ≤ length b → Writes (readLeaves (textOfRows rs) u) (length (withoutComments rs)) (textOfRows rs) b
+  again : (b : List ℕ) → length (textOfRows rs) ≤ length b → Writes (readLeaves rev (textOfRows rs) u) (length (withoutComments rs)) (textOfRows rs) b
   again b k =
       let e = same-bytes rs in
-      subst (λ (x : List ℕ). Writes (readLeaves (textOfRows rs) u) (length (withoutComments rs)) x b) e
-      (good-writes (readLeaves (textOfRows rs) u) (length (withoutComments rs)) (withoutComments rs) back-good b (rw e k))
+      subst (λ (x : List ℕ). Writes (readLeaves rev (textOfRows rs) u) (length (withoutComments rs)) x b) e
+      (good-writes (readLeaves rev (textOfRows rs) u) (length (withoutComments rs)) (withoutComments rs) back-good b (rw e k))
 
-  reads-back : ReadsBack rs u
-  reads-back = record { answer = read-accepts (textOfRows rs) u (withoutComments rs) (file-back rs g) h; table = left; good = back-good; same-bytes = again }
+  reads-back : ReadsBack rev rs u
+  reads-back = record { answer = read-accepts rev (textOfRows rs) u (withoutComments rs) (file-back rev rs g) h; table = left; good = back-good; same-bytes = again }
 
 pub write-back : (t : List ℤ) (n : ℕ) (rs : Rows) → Good t n rs → WritesBack t n rs
 write-back t n rs g =
     let w = good-whole t n rs g in
     record {
       writes = good-writes t n rs g;
-      obeys = obeys-iff (textOfRows rs) .1 (withoutComments rs) (file-back rs (w .rows));
+      obeys = λ rev. obeys-iff (textOfRows rs) .1 (withoutComments rs) (file-back rev rs (w .rows));
       short-lines = rw (text-kept rs) (lines-short (withoutComments rs) (kept-good rs (w .rows) .in-range));
       room = omega (arith, text-length rs (w .rows .in-range), w .count);
-      reads-back = reads-back rs (w .rows);
+      reads-back = λ rev. reads-back rev rs (w .rows);
     }

@@ -1,10 +1,11 @@
--- Document 01's cases, computed on the definitions: the bench file is accepted, printed and written as given, and its edits
--- a to l are answered as given, as one table; after f both routs are tool 1's.
+-- Document 01's cases, computed on the definitions, by the 2021 revision: the bench file is accepted, printed and written as given,
+-- and its edits a to l are answered as given, as one table; after f both routs are tool 1's.
 use mathlib.Core.Path.{_≡_}
 use Prim.Native.Nat.{ℕ, _*_}
 use lib.IntN.{pos}
 use Rattle.lists.specs.Words.{bytes}
 use Rattle.points.specs.declared.Point.{Point}
+use Rattle.rules.specs.declared.Revision.the-variants.{Rev2021}
 use Rattle.rules.specs.declared.Answer.the-variants.{Done}
 use Rattle.rules.specs.declared.HoleAnswer.{HoleAnswer}
 use Rattle.rules.specs.declared.HoleAnswer.the-variants.{Makes}
@@ -19,16 +20,16 @@ use Rattle.rules.specs.Bench.{benchFile, benchPrint, benchWritten, zeros, bench
 
 -- a line's hole after edit f
 abbrev pub afterF : ℕ → HoleAnswer
-afterF k = holeAnswer (editLeaves benchTable 15 9 (bytes ";")) 15 k
+afterF k = holeAnswer (editLeaves Rev2021 benchTable 15 9 (bytes ";")) 15 k
 
 -- a point of whole units
 abbrev pub whole : ℕ → ℕ → Point
 whole x y = record { x = pos (x * 1000000); y = pos (y * 1000000) }
 
 pub record BenchFile : Type 0 where
-  pub accepted : readAnswer benchFile (zeros (rowWidth * 15)) ≡ Done 15
+  pub accepted : readAnswer Rev2021 benchFile (zeros (rowWidth * 15)) ≡ Done 15
   pub good : Good benchTable 15 benchRows
-  pub print-out : printed benchFile ≡ benchPrint
+  pub print-out : printed Rev2021 benchFile ≡ benchPrint
   pub written : textOfRows benchRows ≡ benchWritten
   pub edits : answered cases ≡ expected cases
   pub line-12-after-f : afterF 12 ≡ Makes (record { kind = g01; tool = 1; start = whole 0 0; end = whole 4 0; radius = 0 })

@@ -13,6 +13,7 @@ use Rattle.rules.specs.declared.Refusal.{Refusal}
 use Rattle.rules.specs.declared.Answer.the-variants.{Done, Refused}
 use Rattle.rules.specs.declared.HoleAnswer.the-variants as H
 use Rattle.rules.specs.declared.DiameterAnswer.the-variants as D
+use Rattle.rules.specs.declared.Revision.{Revision}
 use Rattle.rules.specs.Numbers.{maxLines}
 use Rattle.rules.specs.Rows.{rowWidth}
 use Rattle.rules.specs.Reading.{readAnswer, readLeaves}
@@ -45,23 +46,23 @@ diameterRefusals = 18 ∷ 7 ∷ 10 ∷ []
 abbrev pub writeRefusals : List ℕ
 writeRefusals = 18 ∷ 15 ∷ []
 
--- a file's bytes bs read into lent numbers t
-pub record ReadLeavesRest (bs : List ℕ) (t : List ℤ) : Type 0 where
-  pub refused : (e : Refusal) (i : ℕ) → readAnswer bs t ≡ Refused e i
-      → (readLeaves bs t ≡ t) × (among readRefusals (e .number) ≡ true) × (i ≤ maxLines + 1)
-  pub inside : (n : ℕ) → readAnswer bs t ≡ Done n → (n ≤ maxLines) × (rowWidth * n ≤ length t)
-  pub beyond : (n : ℕ) → readAnswer bs t ≡ Done n → drop (rowWidth * n) (readLeaves bs t) ≡ drop (rowWidth * n) t
-  pub as-many : length (readLeaves bs t) ≡ length t
+-- a file's bytes bs read by a revision into lent numbers t
+pub record ReadLeavesRest (rev : Revision) (bs : List ℕ) (t : List ℤ) : Type 0 where
+  pub refused : (e : Refusal) (i : ℕ) → readAnswer rev bs t ≡ Refused e i
+      → (readLeaves rev bs t ≡ t) × (among readRefusals (e .number) ≡ true) × (i ≤ maxLines + 1)
+  pub inside : (n : ℕ) → readAnswer rev bs t ≡ Done n → (n ≤ maxLines) × (rowWidth * n ≤ length t)
+  pub beyond : (n : ℕ) → readAnswer rev bs t ≡ Done n → drop (rowWidth * n) (readLeaves rev bs t) ≡ drop (rowWidth * n) t
+  pub as-many : length (readLeaves rev bs t) ≡ length t
 
 -- line k of a table of n rows in lent numbers t gets the text l
-pub record EditLeavesRest (t : List ℤ) (n k : ℕ) (l : List ℕ) : Type 0 where
-  pub refused : (e : Refusal) (i : ℕ) → editAnswer t n k l ≡ Refused e i
-      → (editLeaves t n k l ≡ t) × (among editRefusals (e .number) ≡ true) × OnLine (n + 1) (maxLines + 1) i
-  pub inside : (m : ℕ) → editAnswer t n k l ≡ Done m → (1 ≤ k) × (k ≤ m) × (m ≤ n) × (n ≤ maxLines) × (rowWidth * n ≤ length t)
-  pub before : (m : ℕ) → editAnswer t n k l ≡ Done m
-      → take (rowWidth * (k - 1)) (editLeaves t n k l) ≡ take (rowWidth * (k - 1)) t
-  pub after : (m : ℕ) → editAnswer t n k l ≡ Done m → drop (rowWidth * m) (editLeaves t n k l) ≡ drop (rowWidth * m) t
-  pub as-many : length (editLeaves t n k l) ≡ length t
+pub record EditLeavesRest (rev : Revision) (t : List ℤ) (n k : ℕ) (l : List ℕ) : Type 0 where
+  pub refused : (e : Refusal) (i : ℕ) → editAnswer rev t n k l ≡ Refused e i
+      → (editLeaves rev t n k l ≡ t) × (among editRefusals (e .number) ≡ true) × OnLine (n + 1) (maxLines + 1) i
+  pub inside : (m : ℕ) → editAnswer rev t n k l ≡ Done m → (1 ≤ k) × (k ≤ m) × (m ≤ n) × (n ≤ maxLines) × (rowWidth * n ≤ length t)
+  pub before : (m : ℕ) → editAnswer rev t n k l ≡ Done m
+      → take (rowWidth * (k - 1)) (editLeaves rev t n k l) ≡ take (rowWidth * (k - 1)) t
+  pub after : (m : ℕ) → editAnswer rev t n k l ≡ Done m → drop (rowWidth * m) (editLeaves rev t n k l) ≡ drop (rowWidth * m) t
+  pub as-many : length (editLeaves rev t n k l) ≡ length t
 
 -- a table of n rows in numbers t written into lent bytes b
 pub record WriteLeavesRest (t : List ℤ) (n : ℕ) (b : List ℕ) : Type 0 where
@@ -72,8 +73,8 @@ pub record WriteLeavesRest (t : List ℤ) (n : ℕ) (b : List ℕ) : Type 0 wher
   pub as-many : length (writeLeaves t n b) ≡ length b
 
 pub record Demand1 : Type 0 where
-  pub read : (bs : List ℕ) (t : List ℤ) → ReadLeavesRest bs t
-  pub edit : (t : List ℤ) (n k : ℕ) (l : List ℕ) → EditLeavesRest t n k l
+  pub read : (rev : Revision) (bs : List ℕ) (t : List ℤ) → ReadLeavesRest rev bs t
+  pub edit : (rev : Revision) (t : List ℤ) (n k : ℕ) (l : List ℕ) → EditLeavesRest rev t n k l
   pub write : (t : List ℤ) (n : ℕ) (b : List ℕ) → WriteLeavesRest t n b
   pub hole : (t : List ℤ) (n k : ℕ) (e : Refusal) (i : ℕ) → holeAnswer t n k ≡ H.Refused e i
       → (among holeRefusals (e .number) ≡ true) × OnLine n maxLines i

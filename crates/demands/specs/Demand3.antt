@@ -1,5 +1,6 @@
--- Demand 3. An edit of an accepted file answers as a fresh reading of the edited file does, and leaves the table that the
--- fresh reading leaves; its meeting line is the first agreement of states, and nothing outside its span changes.
+-- Demand 3, for each revision with itself. An edit of an accepted file answers as a fresh reading of the edited file does, and
+-- leaves the table that the fresh reading leaves; its meeting line is the first agreement of states, and nothing outside its span
+-- changes.
 use mathlib.Core.Path.{_≡_}
 use mathlib.Core.Bool.{true}
 use mathlib.Core.List.{List}
@@ -10,6 +11,7 @@ use Rattle.runs.specs.Machine.{accepted}
 use Rattle.runs.specs.Agreement.{FirstAgreement}
 use Rattle.rules.specs.declared.Answer.{Answer}
 use Rattle.rules.specs.declared.Answer.the-variants.{Done, Refused}
+use Rattle.rules.specs.declared.Revision.{Revision}
 use Rattle.rules.specs.Numbers.{maxFile}
 use Rattle.rules.specs.State.{start}
 use Rattle.rules.specs.Rows.{rowWidth}
@@ -24,11 +26,11 @@ SameVerdict n (Refused e i) fresh = fresh ≡ Refused e i
 SameVerdict n (Done m) fresh = fresh ≡ Done n
 
 -- m is the first line, from line k on, after which the states of two accepted files agree in all ten numbers, or the last
-pub record MeetsAt (old-file new-file : List ℕ) (k m : ℕ) : Type 0 where
+pub record MeetsAt (rev : Revision) (old-file new-file : List ℕ) (k m : ℕ) : Type 0 where
   pub old : Rows
   pub new : Rows
-  pub read-old : fileOf old-file ≡ accepted old
-  pub read-new : fileOf new-file ≡ accepted new
+  pub read-old : fileOf rev old-file ≡ accepted old
+  pub read-new : fileOf rev new-file ≡ accepted new
   pub first : FirstAgreement start old new k m
 
 -- of two tables of n rows: the numbers of rows outside k to m, all beyond the rows, and the holes of lines outside k to m
@@ -39,24 +41,25 @@ pub record SameOutside (t u : List ℤ) (n k m : ℕ) : Type 0 where
   pub holes-after : (j : ℕ) → m < j → holeAnswer u n j ≡ holeAnswer t n j
 
 -- an accepted edit's span; a refused edit changes nothing
-abbrev pub SpanIs : (old-file new-file : List ℕ) → (t u : List ℤ) → (n k : ℕ) → Answer → Type 0
-SpanIs old-file new-file t u n k (Refused e i) = u ≡ t
-SpanIs old-file new-file t u n k (Done m) = MeetsAt old-file new-file k m × SameOutside t u n k m
+abbrev pub SpanIs : Revision → (old-file new-file : List ℕ) → (t u : List ℤ) → (n k : ℕ) → Answer → Type 0
+SpanIs rev old-file new-file t u n k (Refused e i) = u ≡ t
+SpanIs rev old-file new-file t u n k (Done m) = MeetsAt rev old-file new-file k m × SameOutside t u n k m
 
 -- line k of the old file, whose table of n rows is t, gets the text l; the new file is the old one so edited
-pub record AsReadAfresh (old-file new-file : List ℕ) (t : List ℤ) (n k : ℕ) (l : List ℕ) : Type 0 where
-  pub verdict : SameVerdict n (editAnswer t n k l) (readAnswer new-file t)
-  pub table : editLeaves t n k l ≡ readLeaves new-file t
-  pub span : SpanIs old-file new-file t (editLeaves t n k l) n k (editAnswer t n k l)
+pub record AsReadAfresh (rev : Revision) (old-file new-file : List ℕ) (t : List ℤ) (n k : ℕ) (l : List ℕ) : Type 0 where
+  pub verdict : SameVerdict n (editAnswer rev t n k l) (readAnswer rev new-file t)
+  pub table : editLeaves rev t n k l ≡ readLeaves rev new-file t
+  pub span : SpanIs rev old-file new-file t (editLeaves rev t n k l) n k (editAnswer rev t n k l)
 
-pub record Demand3 : Type 0 where
+pub record Demand3 (rev : Revision) : Type 0 where
   -- each line of a file that was read into lent numbers t, whose table has n rows, is one that may be edited, and no other is
-  pub every-line : (bs : List ℕ) (t : List ℤ) (n : ℕ) → readAnswer bs t ≡ Done n → (k : ℕ) → 1 ≤ k → k ≤ n → LineOf bs k
-  pub no-other : (bs : List ℕ) (t : List ℤ) (n : ℕ) → readAnswer bs t ≡ Done n → (k : ℕ) → LineOf bs k → (1 ≤ k) × (k ≤ n)
+  pub every-line : (bs : List ℕ) (t : List ℤ) (n : ℕ) → readAnswer rev bs t ≡ Done n → (k : ℕ) → 1 ≤ k → k ≤ n → LineOf bs k
+  pub no-other : (bs : List ℕ) (t : List ℤ) (n : ℕ) → readAnswer rev bs t ≡ Done n → (k : ℕ) → LineOf bs k → (1 ≤ k) × (k ≤ n)
   -- the edited file is one
   pub one-edited : (bs : List ℕ) (k : ℕ) (v w : LineOf bs k) (l : List ℕ) → noLineEnd l ≡ true → edited v l ≡ edited w l
   -- line k gets the text l, which holds no line end, and the edited file is no larger than a file may be
-  pub as-read-afresh : (bs : List ℕ) (t : List ℤ) (n : ℕ) → readAnswer bs t ≡ Done n → (k : ℕ) (w : LineOf bs k) (l : List ℕ)
-      → noLineEnd l ≡ true → length (edited w l) ≤ maxFile → AsReadAfresh bs (edited w l) (readLeaves bs t) n k l
+  pub as-read-afresh : (bs : List ℕ) (t : List ℤ) (n : ℕ) → readAnswer rev bs t ≡ Done n → (k : ℕ) (w : LineOf bs k) (l : List ℕ)
+      → noLineEnd l ≡ true → length (edited w l) ≤ maxFile → AsReadAfresh rev bs (edited w l) (readLeaves rev bs t) n k l
   -- and two files meet at one line only
-  pub one-meeting : (old-file new-file : List ℕ) (k m n : ℕ) → MeetsAt old-file new-file k m → MeetsAt old-file new-file k n → m ≡ n
+  pub one-meeting : (old-file new-file : List ℕ) (k m n : ℕ) → MeetsAt rev old-file new-file k m
+      → MeetsAt rev old-file new-file k n → m ≡ n

@@ -11,6 +11,7 @@ use Rattle.rules.specs.declared.Command.{Command}
 use Rattle.rules.specs.declared.State.{State}
 use Rattle.rules.specs.declared.Refusal.{Refusal}
 use Rattle.rules.specs.declared.Answer.the-variants.{Done, Refused}
+use Rattle.rules.specs.declared.Revision.{Revision}
 use Rattle.rules.specs.Refusals.{endsTooSoon, noSuchLine, holdsLineEnd, badTable}
 use Rattle.rules.specs.Lines.{LF, CR, NoByte}
 use Rattle.rules.specs.State.{over}
@@ -48,34 +49,34 @@ pub data Stops (s : State) : List (Entry Command State) → Refusal → Type 0 w
   too-soon : (s .phase ≡ over → ⊥) → Stops s [] endsTooSoon
 
 -- why line k does not get the text l, and the line
-pub data EditRefused (t : List ℤ) (n k : ℕ) (l : List ℕ) : Refusal → ℕ → Type 0 where
-  sizes : (Sizes t n → ⊥) → EditRefused t n k l badTable 0
-  no-line : Sizes t n → (LineOfTable t n k → ⊥) → EditRefused t n k l noSuchLine 0
-  line-end : LineOfTable t n k → (NoLineEnd l → ⊥) → EditRefused t n k l holdsLineEnd 0
-  row-before : LineOfTable t n k → NoLineEnd l → 1 < k → foundAt t n (k - 1) ≡ bad → EditRefused t n k l badTable (k - 1)
+pub data EditRefused (rev : Revision) (t : List ℤ) (n k : ℕ) (l : List ℕ) : Refusal → ℕ → Type 0 where
+  sizes : (Sizes t n → ⊥) → EditRefused rev t n k l badTable 0
+  no-line : Sizes t n → (LineOfTable t n k → ⊥) → EditRefused rev t n k l noSuchLine 0
+  line-end : LineOfTable t n k → (NoLineEnd l → ⊥) → EditRefused rev t n k l holdsLineEnd 0
+  row-before : LineOfTable t n k → NoLineEnd l → 1 < k → foundAt t n (k - 1) ≡ bad → EditRefused rev t n k l badTable (k - 1)
   row-itself : {p : State} → LineOfTable t n k → NoLineEnd l → StateBefore t n k p → foundAt t n k ≡ bad
-      → EditRefused t n k l badTable k
+      → EditRefused rev t n k l badTable k
   -- the new line, from 6 on
-  new-line : {p : State} {old : Row Command State} {e : Refusal} → MayEdit t n k l p old → LineRefused l e → EditRefused t n k l e k
+  new-line : {p : State} {old : Row Command State} {e : Refusal} → MayEdit t n k l p old → LineRefused rev l e → EditRefused rev t n k l e k
   -- the new command, and the rows up to the meeting line: some are taken again without agreement, and the next one stops it
   rows : {p : State} {old : Row Command State} {c : Command} {past new : Rows} {left : List (Entry Command State)} {e : Refusal}
-      → MayEdit t n k l p old → SpellsLine l c → rowsFrom t n k c old ≡ allHold past ++ left
+      → MayEdit t n k l p old → SpellsLine rev l c → rowsFrom t n k c old ≡ allHold past ++ left
       → Unmet Takes p past new → Stops (lastOf p new) left e
-      → EditRefused t n k l e (k + length new)
+      → EditRefused rev t n k l e (k + length new)
 
 -- line k gets the text l, and m is the meeting line: from line k on some rows are taken again without agreement, and at the
 -- next one old and new states agree; or there is none, and the run has ended
-pub data Meets (t : List ℤ) (n k : ℕ) (l : List ℕ) : ℕ → Type 0 where
+pub data Meets (rev : Revision) (t : List ℤ) (n k : ℕ) (l : List ℕ) : ℕ → Type 0 where
   agree : {p : State} {old : Row Command State} {c : Command} {past new : Rows} {r : Row Command State}
-      (left : List (Entry Command State)) → MayEdit t n k l p old → SpellsLine l c
+      (left : List (Entry Command State)) → MayEdit t n k l p old → SpellsLine rev l c
       → rowsFrom t n k c old ≡ allHold past ++ (holds r ∷ left) → Unmet Takes p past new
-      → Takes (lastOf p new) (r .command) (r .state) → Meets t n k l (k + length new)
+      → Takes (lastOf p new) (r .command) (r .state) → Meets rev t n k l (k + length new)
   last : {p : State} {old : Row Command State} {c : Command} {past new : Rows}
-      → MayEdit t n k l p old → SpellsLine l c → rowsFrom t n k c old ≡ allHold past
-      → Unmet Takes p past new → lastOf p new .phase ≡ over → Meets t n k l n
+      → MayEdit t n k l p old → SpellsLine rev l c → rowsFrom t n k c old ≡ allHold past
+      → Unmet Takes p past new → lastOf p new .phase ≡ over → Meets rev t n k l n
 
 pub record EditRefusedExactly : Type 0 where
-  pub refused : (t : List ℤ) (n k : ℕ) (l : List ℕ) (e : Refusal) (i : ℕ)
-      → Exactly (editAnswer t n k l ≡ Refused e i) (EditRefused t n k l e i)
-  pub done : (t : List ℤ) (n k : ℕ) (l : List ℕ) (m : ℕ)
-      → Exactly (editAnswer t n k l ≡ Done m) (Meets t n k l m)
+  pub refused : (rev : Revision) (t : List ℤ) (n k : ℕ) (l : List ℕ) (e : Refusal) (i : ℕ)
+      → Exactly (editAnswer rev t n k l ≡ Refused e i) (EditRefused rev t n k l e i)
+  pub done : (rev : Revision) (t : List ℤ) (n k : ℕ) (l : List ℕ) (m : ℕ)
+      → Exactly (editAnswer rev t n k l ≡ Done m) (Meets rev t n k l m)

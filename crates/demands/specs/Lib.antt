@@ -12,3 +12,5 @@ pub mod EditRefused
 pub mod OneSpelling
 pub mod DiametersStand
 pub mod BenchFile
+pub mod OlderAccepts
+pub mod ReadsBackByEither

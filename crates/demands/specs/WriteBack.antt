@@ -1,5 +1,5 @@
--- Demand 2, writing: a good table is written as a file that obeys, of short lines, and it reads back to the table's rows
--- without their comments; these, written again, have the same bytes.
+-- Demand 2, writing: a good table is written as a file that obeys by each revision, of short lines, and it reads back by each to the
+-- table's rows without their comments; these, written again, have the same bytes.
 use mathlib.Core.Path.{_≡_}
 use mathlib.Core.Bool.{true}
 use mathlib.Core.List.{List, [], _∷_}
@@ -8,6 +8,7 @@ use lib.IntN.{ℤ}
 use lib.ListN.{length, take}
 use Rattle.lists.specs.Put.{putAt}
 use Rattle.rules.specs.declared.Answer.the-variants.{Done}
+use Rattle.rules.specs.declared.Revision.{Revision}
 use Rattle.rules.specs.Lines.{Line, linesOf}
 use Rattle.rules.specs.Rows.{rowWidth, tableNumbers, Good}
 use Rattle.rules.specs.Reading.{Rows, readAnswer, readLeaves}
@@ -26,17 +27,17 @@ pub record Writes (t : List ℤ) (n : ℕ) (x b : List ℕ) : Type 0 where
   pub text : writeLeaves t n b ≡ putAt b 0 x
   pub found : take (length x) (writeLeaves t n b) ≡ x
 
--- the text of the rows rs, read into lent numbers u with room for those that are no comments
-pub record ReadsBack (rs : Rows) (u : List ℤ) : Type 0 where
-  pub answer : readAnswer (textOfRows rs) u ≡ Done (length (withoutComments rs))
-  pub table : readLeaves (textOfRows rs) u ≡ putAt u 0 (tableNumbers (withoutComments rs))
-  pub good : Good (readLeaves (textOfRows rs) u) (length (withoutComments rs)) (withoutComments rs)
+-- the text of the rows rs, read by a revision into lent numbers u with room for those that are no comments
+pub record ReadsBack (rev : Revision) (rs : Rows) (u : List ℤ) : Type 0 where
+  pub answer : readAnswer rev (textOfRows rs) u ≡ Done (length (withoutComments rs))
+  pub table : readLeaves rev (textOfRows rs) u ≡ putAt u 0 (tableNumbers (withoutComments rs))
+  pub good : Good (readLeaves rev (textOfRows rs) u) (length (withoutComments rs)) (withoutComments rs)
   pub same-bytes : (b : List ℕ) → length (textOfRows rs) ≤ length b
-      → Writes (readLeaves (textOfRows rs) u) (length (withoutComments rs)) (textOfRows rs) b
+      → Writes (readLeaves rev (textOfRows rs) u) (length (withoutComments rs)) (textOfRows rs) b
 
 pub record WritesBack (t : List ℤ) (n : ℕ) (rs : Rows) : Type 0 where
   pub writes : (b : List ℕ) → length (textOfRows rs) ≤ length b → Writes t n (textOfRows rs) b
-  pub obeys : Obeys (textOfRows rs)
+  pub obeys : (rev : Revision) → Obeys rev (textOfRows rs)
   pub short-lines : ShortLines (linesOf (textOfRows rs))
   pub room : length (textOfRows rs) ≤ longestLine * n
-  pub reads-back : (u : List ℤ) → rowWidth * length (withoutComments rs) ≤ length u → ReadsBack rs u
+  pub reads-back : (rev : Revision) (u : List ℤ) → rowWidth * length (withoutComments rs) ≤ length u → ReadsBack rev rs u

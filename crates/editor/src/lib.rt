@@ -17,6 +17,7 @@ use rules::HOLDS_LINE_END;
 use rules::Looked;
 use rules::NO_SUCH_LINE;
 use rules::Next;
+use rules::Revision;
 use rules::State;
 
 // Whether a new line's bytes hold none of a line end.
@@ -143,10 +144,10 @@ fn edit_from(
     }
 }
 
-/// A line of a table of n rows gets new bytes. The answer is the meeting line: the first, from the edited one on, after which
+/// A line of a table of n rows gets new bytes, read by a revision. The answer is the meeting line: the first, from the edited one on, after which
 /// old and new states agree, or the last. Only rows from the edited line to it change; a refused edit changes nothing.
-pub fn edit(table: &mut [i32], n: usize, line: usize, text: &[u8]) -> Answer
-    ensures { λ r. ⌜ EditIs (now (table .entry)) n line (now (text .entry)) r (now (table .exit)) ⌝ }
+pub fn edit(table: &mut [i32], n: usize, line: usize, text: &[u8], revision: Revision) -> Answer
+    ensures { λ r. ⌜ EditIs revision (now (table .entry)) n line (now (text .entry)) r (now (table .exit)) ⌝ }
 {
     if !table::sizes_fit(table, n) {
         return Answer::Refused(BAD_TABLE, 0);
@@ -162,7 +163,7 @@ pub fn edit(table: &mut [i32], n: usize, line: usize, text: &[u8]) -> Answer
         Before::From(before) => match table::look(table, line - 1) {
             Looked::Bad => Answer::Refused(BAD_TABLE, line),
             Looked::Holds(_, old) => {
-                let answer = line::read(text);
+                let answer = line::read(text, revision);
                 let refusal = answer.refusal;
                 if refusal.number != 0 {
                     return Answer::Refused(refusal, line);

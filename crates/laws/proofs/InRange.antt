@@ -17,6 +17,7 @@ use Rattle.rules.specs.declared.State.{State}
 use Rattle.rules.specs.declared.Command.{Command}
 use Rattle.rules.specs.declared.Command.the-variants as K
 use Rattle.rules.specs.declared.LineAnswer.{LineAnswer}
+use Rattle.rules.specs.declared.Revision.{Revision}
 use Rattle.rules.specs.Numbers.{maxLine, maxNumber, maxTool, maxPlaces, maxLines, Decimal, withSign, millionths, isCoordinate, coordinateOf, isSize, isTool}
 use Rattle.rules.specs.Lines.{Line, textOf, isPrintable}
 use Rattle.rules.specs.Commands.{Form, comment, m48, metric, inch, declare, percent, g05, g00, select, hit, m15, m16, g01, g02, g03, m30, Formed, is, no-form, formOf, pointOf, inRange, meaningOf, onForm, commandOf, lineOf}
@@ -85,11 +86,11 @@ form-ok : (f : Formed) → CommandOk (onForm f .command)
 form-ok (is f) = meaning-ok f
 form-ok no-form = tt
 
-pub line-ok : (l : List ℕ) → CommandOk (lineOf l .command)
+pub line-ok : (rev : Revision) (l : List ℕ) → CommandOk (lineOf rev l .command)
 unfolding lineOf commandOf
-line-ok l =
+line-ok rev l =
     cond-all (λ (a : LineAnswer). CommandOk (a .command)) (leb (length l) maxLine)
-    (λ _. cond-all (λ (a : LineAnswer). CommandOk (a .command)) (isPrintable l) (λ _. form-ok (formOf l)) (λ _. tt))
+    (λ _. cond-all (λ (a : LineAnswer). CommandOk (a .command)) (isPrintable l) (λ _. form-ok (formOf rev l)) (λ _. tt))
     (λ _. tt)
 
 -- ---- rows
@@ -139,23 +140,23 @@ answer-ok a c h = by (eqb (a .refusal .number) 0)
     by true e = let d : a .command ≡ c = cc in subst CommandOk d h
     by false e = absurd (let z : _≡_ {A = ℕ} 0 1 = cc in omega arith)
 
-pub said-ok : (l : List ℕ) (c : Command) → sayOut (lineOf l) ≡ yields c → CommandOk c
-said-ok l c h = answer-ok (lineOf l) c (line-ok l) h
+pub said-ok : (rev : Revision) (l : List ℕ) (c : Command) → sayOut (lineOf rev l) ≡ yields c → CommandOk c
+said-ok rev l c h = answer-ok (lineOf rev l) c (line-ok rev l) h
 
-pub read-ok : (i : ℕ) (l : Line) (c : Command) → commandIn i l ≡ yields c → CommandOk c
+pub read-ok : (rev : Revision) (i : ℕ) (l : Line) (c : Command) → commandIn rev i l ≡ yields c → CommandOk c
 unfolding commandIn answerIn
-read-ok i l c h =
-    answer-ok (answerIn i l) c
+read-ok rev i l c h =
+    answer-ok (answerIn rev i l) c
     (cond-all (λ (a : LineAnswer). CommandOk (a .command)) (leb i maxLines)
-    (λ _. cond-all (λ (a : LineAnswer). CommandOk (a .command)) (l .ended) (λ _. line-ok (textOf (l .bytes))) (λ _. tt))
+    (λ _. cond-all (λ (a : LineAnswer). CommandOk (a .command)) (l .ended) (λ _. line-ok rev (textOf (l .bytes))) (λ _. tt))
     (λ _. tt)) h
 
-pub reads-ok : {p : State} {ls : List Line} {i : ℕ} {rs : Rows} → Reads commandIn taken p ls i rs → StateOk p → RowsOk rs
-reads-ok nil s = tt
-reads-ok {p} (link {l = l} {i = i} {r = r} e f h) s =
-    let c : CommandOk (r .command) = read-ok (i + 1) l (r .command) e in
+pub reads-ok : (rev : Revision) {p : State} {ls : List Line} {i : ℕ} {rs : Rows} → Reads (commandIn rev) taken p ls i rs → StateOk p → RowsOk rs
+reads-ok rev nil s = tt
+reads-ok rev {p} (link {l = l} {i = i} {r = r} e f h) s =
+    let c : CommandOk (r .command) = read-ok rev (i + 1) l (r .command) e in
     let q : StateOk (r .state) = taken-ok p (r .state) (r .command) s c f in
-    (c, q, reads-ok h q)
+    (c, q, reads-ok rev h q)
 
 pub redone-ok : {p : State} {rs ns : Rows} → Redone taken hasEnded p rs ns → StateOk p → RowsOk rs → RowsOk ns
 redone-ok (past d) s g = tt

@@ -7,6 +7,7 @@ use native.Mathlib.Numerals.{add-one}
 use borrow.Author.Tests.{not-true, not-false, lt-ltb, le-ltb, le-leb, lt-leb, eq-eqb, ne-eqb}
 use lib.ListN.{length, take, getD, drop, drop-of-length-le}
 use lib.Seq.{drop-cons}
+use Rattle.rules.specs.declared.Revision.{Revision}
 use Rattle.rules.specs.Refusals.{tooManyLines, lineNotEnded, lineTooLong, forbiddenByte}
 use Rattle.rules.specs.Numbers.{maxLines, maxLine}
 use Rattle.rules.specs.Lines.{CR, endsInCR, textOf, isPrintable}
@@ -52,30 +53,30 @@ module _ (s : List ℕ) (i : ℕ) (e : isPrintable (drop i s) ≡ isPrintable s)
 
 -- ---- the order of the refusals
 
-module _ (l : List ℕ) where
-  pub too-long : maxLine < length l → saysNo lineTooLong ≡ lineOf l
+module _ (rev : Revision) (l : List ℕ) where
+  pub too-long : maxLine < length l → saysNo lineTooLong ≡ lineOf rev l
   unfolding lineOf
   too-long h = rw (lt-leb (length l) maxLine h)
 
   module _ (h : length l ≤ maxLine) {t : Bool} (e : t ≡ isPrintable l) where
-    pub forbidden : not t ≡ true → saysNo forbiddenByte ≡ lineOf l
+    pub forbidden : not t ≡ true → saysNo forbiddenByte ≡ lineOf rev l
     unfolding lineOf
     forbidden g = rw (le-leb (length l) maxLine h, sym e ∙ not-true t g)
 
-    pub allowed : not t ≡ false → commandOf l ≡ lineOf l
+    pub allowed : not t ≡ false → commandOf rev l ≡ lineOf rev l
     unfolding lineOf
     allowed g = rw (le-leb (length l) maxLine h, sym e ∙ not-false t g)
 
-module _ (i : ℕ) (l : List ℕ) (ended : Bool) where
-  pub too-many : maxLines < i → saysNo tooManyLines ≡ answerIn i (lineOfBytes l ended)
+module _ (rev : Revision) (i : ℕ) (l : List ℕ) (ended : Bool) where
+  pub too-many : maxLines < i → saysNo tooManyLines ≡ answerIn rev i (lineOfBytes l ended)
   unfolding answerIn
   too-many h = rw (lt-leb i maxLines h)
 
   module _ (h : i ≤ maxLines) where
-    pub not-ended : not ended ≡ true → saysNo lineNotEnded ≡ answerIn i (lineOfBytes l ended)
+    pub not-ended : not ended ≡ true → saysNo lineNotEnded ≡ answerIn rev i (lineOfBytes l ended)
     unfolding answerIn
     not-ended e = rw (le-leb i maxLines h, not-true ended e)
 
-    pub text-says : not ended ≡ false → {text : List ℕ} → text ≡ textOf l → lineOf text ≡ answerIn i (lineOfBytes l ended)
+    pub text-says : not ended ≡ false → {text : List ℕ} → text ≡ textOf l → lineOf rev text ≡ answerIn rev i (lineOfBytes l ended)
     unfolding answerIn
     text-says e g = rw (le-leb i maxLines h, not-false ended e, g)

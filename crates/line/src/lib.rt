@@ -14,6 +14,7 @@ use rules::LineAnswer;
 use rules::MAX_LINE;
 use rules::MAX_LINES;
 use rules::Refusal;
+use rules::Revision;
 use rules::TOO_MANY_LINES;
 
 /// Where the line that begins at `from` has its LF, or the file's end; past the end it is `from` itself.
@@ -70,9 +71,9 @@ fn printable(s: &[u8]) -> bool
     true
 }
 
-/// What a line's text says: a command, or the refusal 6, 4, 5 or 7, the first that there is ground for.
-pub fn read(text: &[u8]) -> LineAnswer
-    ensures { λ r. ⌜ r ≡ lineOf (now (text .entry)) ⌝ }
+/// What a line's text says by a revision: a command, or the refusal 6, 4, 5 or 7, the first that there is ground for.
+pub fn read(text: &[u8], revision: Revision) -> LineAnswer
+    ensures { λ r. ⌜ r ≡ lineOf revision (now (text .entry)) ⌝ }
 {
     if MAX_LINE < text.len() {
         return says_no(LINE_TOO_LONG);
@@ -80,12 +81,13 @@ pub fn read(text: &[u8]) -> LineAnswer
     if !printable(text) {
         return says_no(FORBIDDEN_BYTE);
     }
-    command::read(text)
+    command::read(text, revision)
 }
 
-/// What a line of a file says, given its number, its bytes up to its LF, and whether the LF is there: 2, 3, then its text's own.
-pub fn answer(number: usize, line: &[u8], ended: bool) -> LineAnswer
-    ensures { λ r. ⌜ r ≡ answerIn number (lineOfBytes (now (line .entry)) ended) ⌝ }
+/// What a line of a file says by a revision, given its number, its bytes up to its LF, and whether the LF is there: 2, 3, then its
+/// text's own.
+pub fn answer(number: usize, line: &[u8], ended: bool, revision: Revision) -> LineAnswer
+    ensures { λ r. ⌜ r ≡ answerIn revision number (lineOfBytes (now (line .entry)) ended) ⌝ }
 {
     if MAX_LINES < number {
         return says_no(TOO_MANY_LINES);
@@ -93,5 +95,5 @@ pub fn answer(number: usize, line: &[u8], ended: bool) -> LineAnswer
     if !ended {
         return says_no(LINE_NOT_ENDED);
     }
-    read(text_of(line))
+    read(text_of(line), revision)
 }

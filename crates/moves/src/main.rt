@@ -1,5 +1,6 @@
 // Prints what else on the board moves when one line of an XNC file changes. Standard input has the line's number, a tab and the
-// new text on its first line; the file follows. Holes and tools that differ go to standard output.
+// new text on its first line; the file follows. Holes and tools that differ go to standard output. The argument 2019 has file and
+// text read by that revision.
 ghost use mathlib.Core.Path.{_≡_};
 ghost use Prim.Native.Nat.{_≤_};
 ghost use Rattle.moves.specs.Moves as Moves;
@@ -11,9 +12,11 @@ use rules::HoleAnswer;
 use rules::MAX_FILE;
 use rules::MAX_TOOL;
 use rules::NO_SUCH_LINE;
+use rules::Revision;
 use rules::TABLE_ROOM;
 use show::Input;
 use show::InputLine;
+use show::arguments::Chosen;
 
 fn same_hole(a: Hole, b: Hole) -> bool
     ensures { λ r. ⌜ r ≡ Moves.sameHole a b ⌝ }
@@ -125,12 +128,12 @@ fn print_count(count: usize) {
 }
 
 // The edit goes into a copy, so that both tables can be asked.
-fn try_edit(old: &[i32], n: usize, line: usize, text: &[u8])
+fn try_edit(old: &[i32], n: usize, line: usize, text: &[u8], revision: Revision)
     requires { ⌜ 1 ≤ line ⌝ }
 {
     let mut new = [0i32; TABLE_ROOM];
     put::copy(&mut new, 0, old);
-    match editor::edit(&mut new, n, line, text) {
+    match editor::edit(&mut new, n, line, text, revision) {
         Answer::Refused(refusal, at) => show::refused(refusal, at),
         Answer::Done(meeting) => {
             print_span(line, meeting);
@@ -174,41 +177,50 @@ fn line_number(digits: &[u8]) -> usize {
     line
 }
 
-fn answer(old: &[i32], n: usize, first: &[u8]) {
+fn answer(old: &[i32], n: usize, first: &[u8], revision: Revision) {
     let tab = find_tab(first);
     if tab < first.len() {
         let line = line_number(&first[..tab]);
         if 0 < line {
-            try_edit(old, n, line, &first[tab + 1..]);
+            try_edit(old, n, line, &first[tab + 1..], revision);
             return;
         }
     }
     show::refused(NO_SUCH_LINE, 0);
 }
 
-fn report(first: &[u8], file: &[u8]) {
+fn report(first: &[u8], file: &[u8], revision: Revision) {
     let mut old = [0i32; TABLE_ROOM];
-    match reader::read(file, &mut old) {
+    match reader::read(file, revision, &mut old) {
         Answer::Refused(refusal, line) => show::refused(refusal, line),
-        Answer::Done(n) => answer(&old, n, first),
+        Answer::Done(n) => answer(&old, n, first, revision),
     }
 }
 
-fn read_file(first: &[u8]) {
+fn read_file(first: &[u8], revision: Revision) {
     // One byte more than a file may have, so that a longer one is seen.
     let mut file = [0u8; MAX_FILE + 1];
     match show::read_input(&mut file) {
-        Input::Bytes(got) => report(first, &file[..got]),
+        Input::Bytes(got) => report(first, &file[..got], revision),
         Input::Failed => {}
     }
 }
 
-fn main() {
+fn read_first(revision: Revision) {
     // More than a number, a tab and the longest new line: what doesn't fit would be refused anyway.
     let mut first = [0u8; 1024];
     match show::read_line(&mut first) {
-        InputLine::Bytes(got) => read_file(line::text_of(&first[..got])),
+        InputLine::Bytes(got) => read_file(line::text_of(&first[..got]), revision),
         InputLine::TooLong => show::refused(FILE_TOO_LONG, 0),
         InputLine::Failed => {}
+    }
+}
+
+fn main() {
+    match show::arguments::chosen_revision(
+        b"usage: moves [2019|2021], and on standard input a line's number, a tab and its new text, then the file\n",
+    ) {
+        Chosen::By(revision) => read_first(revision),
+        Chosen::Nothing => {}
     }
 }

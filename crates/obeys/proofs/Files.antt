@@ -18,6 +18,7 @@ use Rattle.rules.specs.declared.State.{State}
 use Rattle.rules.specs.declared.Refusal.{Refusal}
 use Rattle.rules.specs.declared.Next.{Next}
 use Rattle.rules.specs.declared.Next.the-variants.{To, No}
+use Rattle.rules.specs.declared.Revision.{Revision}
 use Rattle.rules.specs.Refusals.{endsTooSoon}
 use Rattle.rules.specs.Numbers.{maxFile, maxLines}
 use Rattle.rules.specs.Lines.{LF, Line, linesOf, textOf, NoLF, AllEnded}
@@ -57,86 +58,86 @@ refused-taken {p} {c} {e} w = ap outOf (refused-iff p c e .1 w)
 -- ---- a run of lines: how it ends
 
 -- lines that read as rows, by the relations and by the machine
-abbrev pub ReadsAs : State → ℕ → List Line → Rows → Type 0
-ReadsAs = Chain LineReads Takes
+abbrev pub ReadsAs : Revision → State → ℕ → List Line → Rows → Type 0
+ReadsAs rev = Chain (LineReads rev) Takes
 
-by-machine : {p : State} {i : ℕ} {ls : List Line} {rs : Rows} → ReadsAs p i ls rs → Reads commandIn taken p ls i rs
+by-machine : {rev : Revision} {p : State} {i : ℕ} {ls : List Line} {rs : Rows} → ReadsAs rev p i ls rs → Reads (commandIn rev) taken p ls i rs
 by-machine = chain-map (λ i l c w. line-yields w) (λ p c q w. takes-taken w)
 
 -- line i, the first of those left, is no command; or is one that may not come in state p; or is missing
-data Stuck (i : ℕ) (p : State) : List Line → Refusal → Type 0 where
-  no-line : (p .phase ≡ over → ⊥) → Stuck i p [] endsTooSoon
-  no-command : {l : Line} {ls : List Line} {e : Refusal} → LineFault i l e → Stuck i p (l ∷ ls) e
-  not-here : {l : Line} {ls : List Line} {c : Command} {e : Refusal} → LineReads i l c → Untaken p c e → Stuck i p (l ∷ ls) e
+data Stuck (rev : Revision) (i : ℕ) (p : State) : List Line → Refusal → Type 0 where
+  no-line : (p .phase ≡ over → ⊥) → Stuck rev i p [] endsTooSoon
+  no-command : {l : Line} {ls : List Line} {e : Refusal} → LineFault rev i l e → Stuck rev i p (l ∷ ls) e
+  not-here : {l : Line} {ls : List Line} {c : Command} {e : Refusal} → LineReads rev i l c → Untaken p c e → Stuck rev i p (l ∷ ls) e
 
 -- from state p, after i lines: all lines read and the run has ended, or one is at fault
-data Outcome (p : State) (i : ℕ) : List Line → Verdict Rows Refusal → Type 0 where
-  reads : {ls : List Line} {rs : Rows} → ReadsAs p i ls rs → hasEnded (lastOf p rs) ≡ true → Outcome p i ls (accepted rs)
-  fault : {xs ys : List Line} {rs : Rows} {e : Refusal} {j : ℕ} → ReadsAs p i xs rs → i + length xs + 1 ≡ j → Stuck j (lastOf p rs) ys e
-      → Outcome p i (xs ++ ys) (refused e j)
+data Outcome (rev : Revision) (p : State) (i : ℕ) : List Line → Verdict Rows Refusal → Type 0 where
+  reads : {ls : List Line} {rs : Rows} → ReadsAs rev p i ls rs → hasEnded (lastOf p rs) ≡ true → Outcome rev p i ls (accepted rs)
+  fault : {xs ys : List Line} {rs : Rows} {e : Refusal} {j : ℕ} → ReadsAs rev p i xs rs → i + length xs + 1 ≡ j → Stuck rev j (lastOf p rs) ys e
+      → Outcome rev p i (xs ++ ys) (refused e j)
 
-first : (p : State) (i : ℕ) (ls : List Line) (e : Refusal) → Stuck (i + 1) p ls e → Outcome p i ls (refused e (i + 1))
+first : {rev : Revision} (p : State) (i : ℕ) (ls : List Line) (e : Refusal) → Stuck rev (i + 1) p ls e → Outcome rev p i ls (refused e (i + 1))
 unfolding lastOf
 first p i ls e f = fault {xs = []} {j = i + 1} nil (omega arith) f
 
-more : (p q : State) (i : ℕ) (l : Line) (ls : List Line) (c : Command) (v : Verdict Rows Refusal) → LineReads (i + 1) l c → Takes p c q
-    → Outcome q (i + 1) ls v → Outcome p i (l ∷ ls) (before (record { command = c; state = q }) v)
+more : {rev : Revision} (p q : State) (i : ℕ) (l : Line) (ls : List Line) (c : Command) (v : Verdict Rows Refusal) → LineReads rev (i + 1) l c → Takes p c q
+    → Outcome rev q (i + 1) ls v → Outcome rev p i (l ∷ ls) (before (record { command = c; state = q }) v)
 unfolding lastOf
 more p q i l ls c v h k (reads w e) = reads (link h k w) e
 more p q i l ls c v h k (fault {xs = xs} {j = j} w n f) = fault {xs = l ∷ xs} {j = j} (link h k w) (omega (arith, n)) f
 
-run-outcome : (ls : List Line) (p : State) (i : ℕ) → Outcome p i ls (runFrom p ls i)
+run-outcome : {rev : Revision} (ls : List Line) (p : State) (i : ℕ) → Outcome rev p i ls (runFrom rev p ls i)
 unfolding run lastOf
-run-outcome [] p i = cond-all (Outcome p i []) (hasEnded p) (λ e. reads nil e) (λ e. first p i [] endsTooSoon (no-line (eqb-false (p .phase) over e)))
-run-outcome (l ∷ ls) p i =
-    out-all (Outcome p i (l ∷ ls)) (commandIn (i + 1) l) (λ e h. first p i (l ∷ ls) e (no-command (line-fault (i + 1) l e .0 h)))
-    (λ c h. let w : LineReads (i + 1) l c = yields-line (i + 1) l c h in
-    out-all (Outcome p i (l ∷ ls)) (taken p c) (λ e k. first p i (l ∷ ls) e (not-here w (taken-refused p c e k)))
-    (λ q k. more p q i l ls c (runFrom q ls (i + 1)) w (taken-takes p c q k) (run-outcome ls q (i + 1))))
+run-outcome {rev} [] p i = cond-all (Outcome rev p i []) (hasEnded p) (λ e. reads nil e) (λ e. first p i [] endsTooSoon (no-line (eqb-false (p .phase) over e)))
+run-outcome {rev} (l ∷ ls) p i =
+    out-all (Outcome rev p i (l ∷ ls)) (commandIn rev (i + 1) l) (λ e h. first p i (l ∷ ls) e (no-command (line-fault (i + 1) l e .0 h)))
+    (λ c h. let w : LineReads rev (i + 1) l c = yields-line (i + 1) l c h in
+    out-all (Outcome rev p i (l ∷ ls)) (taken p c) (λ e k. first p i (l ∷ ls) e (not-here w (taken-refused p c e k)))
+    (λ q k. more p q i l ls c (runFrom rev q ls (i + 1)) w (taken-takes p c q k) (run-outcome ls q (i + 1))))
 
-stuck-first : {p : State} {ys : List Line} {e : Refusal} (i : ℕ) → Stuck (i + 1) p ys e → runFrom p ys i ≡ refused e (i + 1)
+stuck-first : {rev : Revision} {p : State} {ys : List Line} {e : Refusal} (i : ℕ) → Stuck rev (i + 1) p ys e → runFrom rev p ys i ≡ refused e (i + 1)
 unfolding run
 stuck-first {e = e} i (no-command {l = l} h) = rw (line-fault (i + 1) l e .1 h)
 stuck-first i (not-here h k) = rw (line-yields h, refused-taken k)
-stuck-first {p} i (no-line h) = rw (ne-eqb (p .phase) over h)
+stuck-first {rev} {p} i (no-line h) = rw (ne-eqb (p .phase) over h)
 
-stuck-run : {p : State} {i : ℕ} {xs ys : List Line} {rs : Rows} {e : Refusal} → ReadsAs p i xs rs → Stuck (i + length xs + 1) (lastOf p rs) ys e
-    → runFrom p (xs ++ ys) i ≡ refused e (i + length xs + 1)
-stuck-run {i = i} {xs} {ys} {rs} w f =
-    run-append commandIn taken hasEnded endsTooSoon (by-machine w) ys ∙ ap (befores rs) (stuck-first (i + length xs) f)
+stuck-run : {rev : Revision} {p : State} {i : ℕ} {xs ys : List Line} {rs : Rows} {e : Refusal} → ReadsAs rev p i xs rs → Stuck rev (i + length xs + 1) (lastOf p rs) ys e
+    → runFrom rev p (xs ++ ys) i ≡ refused e (i + length xs + 1)
+stuck-run {rev} {i = i} {xs} {ys} {rs} w f =
+    run-append (commandIn rev) taken hasEnded endsTooSoon (by-machine w) ys ∙ ap (befores rs) (stuck-first (i + length xs) f)
 
 -- ---- lines that read are a reading
 
-reads-spelled : {p : State} {i : ℕ} {ls : List Line} {rs : Rows} → ReadsAs p i ls rs → SpellsFile (joinOf ls) (commandsOf rs)
+reads-spelled : {rev : Revision} {p : State} {i : ℕ} {ls : List Line} {rs : Rows} → ReadsAs rev p i ls rs → SpellsFile rev (joinOf ls) (commandsOf rs)
 unfolding commandsOf
 reads-spelled nil = empty
 reads-spelled (link {l = l} {ls = ls} {r = r} {rs = rs} h k w) = spells-first l (joinOf ls) (r .command) (commandsOf rs) h (reads-spelled w)
 
 -- no file has more lines than the limit
-pub chain-counted : {p : State} {i : ℕ} {ls : List Line} {rs : Rows} → ReadsAs p i ls rs → i ≤ maxLines → i + length rs ≤ maxLines
+pub chain-counted : {rev : Revision} {p : State} {i : ℕ} {ls : List Line} {rs : Rows} → ReadsAs rev p i ls rs → i ≤ maxLines → i + length rs ≤ maxLines
 chain-counted nil h = omega arith
 chain-counted (link r t w) h = omega (arith, chain-counted w (r .counted))
 
-spelled-reads : {p : State} {bs : List ℕ} {cs : List Command} (rs : Rows) (i : ℕ) → SpellsFile bs cs → cs ≡ commandsOf rs → Follows Takes p i rs
-    → i + length rs ≤ maxLines → ReadsAs p i (linesOf bs) rs
+spelled-reads : {rev : Revision} {p : State} {bs : List ℕ} {cs : List Command} (rs : Rows) (i : ℕ) → SpellsFile rev bs cs → cs ≡ commandsOf rs → Follows Takes p i rs
+    → i + length rs ≤ maxLines → ReadsAs rev p i (linesOf bs) rs
 unfolding linesOf commandsOf
 spelled-reads [] i empty d g b = nil
 spelled-reads [] i (S.line w e f) d g b = absurd (let z : _≡_ {A = ℕ} 0 1 = cc in omega arith)
 spelled-reads (r ∷ rs) i empty d g b = absurd (let z : _≡_ {A = ℕ} 0 1 = cc in omega arith)
-spelled-reads {p} (r ∷ rs) i (S.line {l = l} {rest = rest} {c = c} {cs = cs} w e f) d g b =
+spelled-reads {rev} {p} (r ∷ rs) i (S.line {l = l} {rest = rest} {c = c} {cs = cs} w e f) d g b =
     let same : c ≡ r .command = cc in
     let others : cs ≡ commandsOf rs = cc in
-    let v : LineReads (i + 1) (lineWith l e) (r .command) = record {
+    let v : LineReads rev (i + 1) (lineWith l e) (r .command) = record {
       counted = omega arith;
       ends = refl;
-      spelling = subst₂ SpellsLine (sym (spelled-text (w .printable) e)) same w;
+      spelling = subst₂ (SpellsLine rev) (sym (spelled-text (w .printable) e)) same w;
     } in
-    subst (λ (z : List Line). ReadsAs p i z (r ∷ rs)) (sym (spelled-falls (w .printable) e rest))
+    subst (λ (z : List Line). ReadsAs rev p i z (r ∷ rs)) (sym (spelled-falls (w .printable) e rest))
     (link v (follows-head g) (spelled-reads rs (i + 1) f others (follows-tail g) (omega arith)))
 
 -- ---- a line at fault, in lines and in bytes
 
-reads-ended : {p : State} {i : ℕ} {ls : List Line} {rs : Rows} → ReadsAs p i ls rs → AllEnded ls
+reads-ended : {rev : Revision} {p : State} {i : ℕ} {ls : List Line} {rs : Rows} → ReadsAs rev p i ls rs → AllEnded ls
 reads-ended nil = tt
 reads-ended (link r t w) = (r .ends, reads-ended w)
 
@@ -175,25 +176,25 @@ module _ (i : ℕ) (p : State) (bs : List ℕ) where
   not-lf (ended rest t q f r) e = absurd (false≢true (sym e ∙ t))
   not-lf (last t m f) e = f
 
-  line-bytes : {l : Line} {ls : List Line} {e : Refusal} → First bs l ls → LineFault i l e → Fault i p bs e
+  line-bytes : {rev : Revision} {l : Line} {ls : List Line} {e : Refusal} → First bs l ls → LineFault rev i l e → Fault rev i p bs e
   line-bytes w (beyond n) = too-many (some-bytes w) n
   line-bytes w (unended n e) = not-ended (some-bytes w) n (not-lf w e)
   line-bytes w (Split.unread n e r) = unread n (ended-line w e .1) r
 
-  stuck-bytes : {ls : List Line} {e : Refusal} → FirstOf bs ls → Stuck i p ls e → Fault i p bs e
+  stuck-bytes : {rev : Revision} {ls : List Line} {e : Refusal} → FirstOf bs ls → Stuck rev i p ls e → Fault rev i p bs e
   stuck-bytes h (no-line n) = missing h n
   stuck-bytes h (no-command f) = line-bytes h f
   stuck-bytes h (not-here r u) = untaken (r .counted) (ended-line h (r .ends) .1) (r .spelling) u
 
   -- the bytes' first line, where there is one
-  with-first : {e : Refusal} → (bs ≡ [] → ⊥) → ((l : Line) (ls : List Line) → First bs l ls → LineFault i l e) → Stuck i p (linesOf bs) e
-  with-first {e} n f = by (linesOf bs) (first-of bs)
+  with-first : {rev : Revision} {e : Refusal} → (bs ≡ [] → ⊥) → ((l : Line) (ls : List Line) → First bs l ls → LineFault rev i l e) → Stuck rev i p (linesOf bs) e
+  with-first {rev} {e} n f = by (linesOf bs) (first-of bs)
     where
-      by : (ls : List Line) → FirstOf bs ls → Stuck i p ls e
+      by : (ls : List Line) → FirstOf bs ls → Stuck rev i p ls e
       by [] h = absurd (n h)
       by (l ∷ ls) h = no-command (f l ls h)
 
-  bytes-stuck : {e : Refusal} → Fault i p bs e → Stuck i p (linesOf bs) e
+  bytes-stuck : {rev : Revision} {e : Refusal} → Fault rev i p bs e → Stuck rev i p (linesOf bs) e
   unfolding linesOf
   bytes-stuck (missing d n) = rw d (no-line n)
   bytes-stuck (too-many m n) = with-first m (λ l ls w. beyond n)
@@ -209,60 +210,60 @@ module _ (i : ℕ) (p : State) (bs : List ℕ) where
 
 -- ---- a file
 
-abbrev FileSays : List ℕ → Verdict Rows Refusal → Type 0
-FileSays bs (accepted rs) = ReadingOf bs rs
-FileSays bs (refused e i) = Faulty bs e i
+abbrev FileSays : Revision → List ℕ → Verdict Rows Refusal → Type 0
+FileSays rev bs (accepted rs) = ReadingOf rev bs rs
+FileSays rev bs (refused e i) = Faulty rev bs e i
 
-file-sound : (bs : List ℕ) → FileSays bs (fileOf bs)
+file-sound : (rev : Revision) (bs : List ℕ) → FileSays rev bs (fileOf rev bs)
 unfolding fileOf runOf
-file-sound bs =
-    cond-all (FileSays bs) (leb (length bs) maxFile)
-    (λ h. by (leb-true (length bs) maxFile h) (linesOf bs) (runFrom start (linesOf bs) 0) refl (run-outcome (linesOf bs) start 0))
+file-sound rev bs =
+    cond-all (FileSays rev bs) (leb (length bs) maxFile)
+    (λ h. by (leb-true (length bs) maxFile h) (linesOf bs) (runFrom rev start (linesOf bs) 0) refl (run-outcome (linesOf bs) start 0))
     (λ h. too-large (leb-false (length bs) maxFile h))
   where
-    by : length bs ≤ maxFile → (ls : List Line) (v : Verdict Rows Refusal) → linesOf bs ≡ ls → Outcome start 0 ls v → FileSays bs v
+    by : length bs ≤ maxFile → (ls : List Line) (v : Verdict Rows Refusal) → linesOf bs ≡ ls → Outcome rev start 0 ls v → FileSays rev bs v
     by h ls v d (reads {rs = rs} w e) =
         record {
           file-size = h;
           line-count = omega (arith, chain-counted w (omega arith));
-          spelling = subst (λ (z : List ℕ). SpellsFile z (commandsOf rs)) (ap joinOf (sym d) ∙ join-lines bs) (reads-spelled w);
+          spelling = subst (λ (z : List ℕ). SpellsFile rev z (commandsOf rs)) (ap joinOf (sym d) ∙ join-lines bs) (reads-spelled w);
           follows = chain-follows w;
           ends = eqb-true (lastOf start rs .phase) over e;
         }
     by h ls v d (fault {xs = xs} {ys = ys} {rs = rs} {e = e} {j = j} w n f) =
         let q = parted bs xs ys d (reads-ended w) in
         let m : j ≡ length rs + 1 = omega (arith, n, chain-length w) in
-        let g : Fault j (lastOf start rs) (q .left) e = stuck-bytes j (lastOf start rs) (q .left) (subst (FirstOf (q .left)) (q .lines) (first-of (q .left))) f in
-        subst (Faulty bs e) (sym m)
+        let g : Fault rev j (lastOf start rs) (q .left) e = stuck-bytes j (lastOf start rs) (q .left) (subst (FirstOf (q .left)) (q .lines) (first-of (q .left))) f in
+        subst (Faulty rev bs e) (sym m)
         (at-line h (q .parts) (omega (arith, chain-counted w (omega arith))) (reads-spelled w) (chain-follows w)
-        (subst (λ (z : ℕ). Fault z (lastOf start rs) (q .left) e) m g))
+        (subst (λ (z : ℕ). Fault rev z (lastOf start rs) (q .left) e) m g))
 
-file-read : {bs : List ℕ} {rs : Rows} → ReadingOf bs rs → fileOf bs ≡ accepted rs
+file-read : {rev : Revision} {bs : List ℕ} {rs : Rows} → ReadingOf rev bs rs → fileOf rev bs ≡ accepted rs
 unfolding fileOf runOf
-file-read {bs} {rs} w =
+file-read {rev} {bs} {rs} w =
     rw (le-leb (length bs) maxFile (w .file-size))
-    (reads-run commandIn taken hasEnded endsTooSoon (by-machine (spelled-reads rs 0 (w .spelling) refl (w .follows) (omega (arith, w .line-count)))) (eq-eqb (lastOf start rs .phase) over (w .ends)))
+    (reads-run (commandIn rev) taken hasEnded endsTooSoon (by-machine (spelled-reads rs 0 (w .spelling) refl (w .follows) (omega (arith, w .line-count)))) (eq-eqb (lastOf start rs .phase) over (w .ends)))
 
-faulty-refused : {bs : List ℕ} {e : Refusal} {i : ℕ} → Faulty bs e i → fileOf bs ≡ refused e i
+faulty-refused : {rev : Revision} {bs : List ℕ} {e : Refusal} {i : ℕ} → Faulty rev bs e i → fileOf rev bs ≡ refused e i
 unfolding fileOf runOf
-faulty-refused {bs} (too-large h) = rw (lt-leb (length bs) maxFile h)
-faulty-refused {bs} (at-line {head = head} {left = left} {rs = rs} {e = e} h d n w g f) =
-    let r : ReadsAs start 0 (linesOf head) rs = spelled-reads rs 0 w refl g (omega arith) in
+faulty-refused {rev} {bs} (too-large h) = rw (lt-leb (length bs) maxFile h)
+faulty-refused {rev} {bs} (at-line {head = head} {left = left} {rs = rs} {e = e} h d n w g f) =
+    let r : ReadsAs rev start 0 (linesOf head) rs = spelled-reads rs 0 w refl g (omega arith) in
     let c : length rs ≡ length (linesOf head) = chain-length r in
     let m : length rs + 1 ≡ 0 + length (linesOf head) + 1 = omega (arith, c) in
     rw (le-leb (length bs) maxFile h, d, lines-append head left (reads-ended r))
-    (stuck-run r (bytes-stuck _ (lastOf start rs) left (subst (λ (z : ℕ). Fault z (lastOf start rs) left e) m f)) ∙ ap (refused e) (sym m))
+    (stuck-run r (bytes-stuck _ (lastOf start rs) left (subst (λ (z : ℕ). Fault rev z (lastOf start rs) left e) m f)) ∙ ap (refused e) (sym m))
 
-pub file-iff : (bs : List ℕ) (rs : Rows) → (fileOf bs ≡ accepted rs → ReadingOf bs rs) × (ReadingOf bs rs → fileOf bs ≡ accepted rs)
-file-iff bs rs = (λ e. subst (FileSays bs) e (file-sound bs), file-read)
+pub file-iff : {rev : Revision} (bs : List ℕ) (rs : Rows) → (fileOf rev bs ≡ accepted rs → ReadingOf rev bs rs) × (ReadingOf rev bs rs → fileOf rev bs ≡ accepted rs)
+file-iff {rev} bs rs = (λ e. subst (FileSays rev bs) e (file-sound rev bs), file-read)
 
-pub one-reading : {bs : List ℕ} {rs rs′ : Rows} → ReadingOf bs rs → ReadingOf bs rs′ → rs ≡ rs′
+pub one-reading : {rev : Revision} {bs : List ℕ} {rs rs′ : Rows} → ReadingOf rev bs rs → ReadingOf rev bs rs′ → rs ≡ rs′
 one-reading v w = let e = sym (file-read v) ∙ file-read w in cc
 
 -- a file obeys exactly where it is accepted
-pub obeys-iff : (bs : List ℕ) → (Obeys bs → (rs : Rows) × (fileOf bs ≡ accepted rs)) × ((rs : Rows) → fileOf bs ≡ accepted rs → Obeys bs)
+pub obeys-iff : {rev : Revision} (bs : List ℕ) → (Obeys rev bs → (rs : Rows) × (fileOf rev bs ≡ accepted rs)) × ((rs : Rows) → fileOf rev bs ≡ accepted rs → Obeys rev bs)
 obeys-iff bs = (λ w. (w .rows, file-read (w .reading)), λ rs e. record { rows = rs; reading = file-iff bs rs .0 e })
 
 -- a file is refused exactly where it is faulty, and so
-pub refused-says : (bs : List ℕ) (e : Refusal) (i : ℕ) → (fileOf bs ≡ refused e i → Faulty bs e i) × (Faulty bs e i → fileOf bs ≡ refused e i)
-refused-says bs e i = (λ h. subst (FileSays bs) h (file-sound bs), faulty-refused)
+pub refused-says : {rev : Revision} (bs : List ℕ) (e : Refusal) (i : ℕ) → (fileOf rev bs ≡ refused e i → Faulty rev bs e i) × (Faulty rev bs e i → fileOf rev bs ≡ refused e i)
+refused-says {rev} bs e i = (λ h. subst (FileSays rev bs) h (file-sound rev bs), faulty-refused)

@@ -6,3 +6,4 @@ pub mod Split
 pub mod Files
 pub mod Declares
 pub mod Selected
+pub mod Older

@@ -13,6 +13,7 @@ use Rattle.runs.specs.Machine.{Out, yields, stops}
 use Rattle.rules.specs.declared.Command.{Command}
 use Rattle.rules.specs.declared.LineAnswer.{LineAnswer}
 use Rattle.rules.specs.declared.Refusal.{Refusal}
+use Rattle.rules.specs.declared.Revision.{Revision}
 use Rattle.rules.specs.Refusals.{lineTooLong, forbiddenByte, noSuchForm, outOfRange}
 use Rattle.rules.specs.Numbers.{maxLine, maxNumber, maxTool, maxPlaces, Decimal, millionths, isCoordinate, coordinateOf, isSize, isTool}
 use Rattle.rules.specs.Lines.{isPrintable}
@@ -119,16 +120,16 @@ meaning m30 = means m30-means
 -- ---- a line's command
 
 -- what each answer says of a line's bytes: the command; or 5, no form at all; or 7, a form whose numbers mean no command
-data CommandSays (l : List ℕ) : LineAnswer → Type 0 where
-  spells : {c : Command} → SpellsCommand l c → CommandSays l (says c)
-  formless : ((f : Form) → Spells l f → ⊥) → CommandSays l (saysNo noSuchForm)
-  meaningless : {f : Form} → Spells l f → ((c : Command) → Means f c → ⊥) → CommandSays l (saysNo outOfRange)
+data CommandSays (rev : Revision) (l : List ℕ) : LineAnswer → Type 0 where
+  spells : {c : Command} → SpellsCommand rev l c → CommandSays rev l (says c)
+  formless : ((f : Form) → Spells rev l f → ⊥) → CommandSays rev l (saysNo noSuchForm)
+  meaningless : {f : Form} → Spells rev l f → ((c : Command) → Means f c → ⊥) → CommandSays rev l (saysNo outOfRange)
 
 -- no command has a refusal's number
 not-refused : {a : LineAnswer} {c : Command} → a ≡ says c → eqb (a .refusal .number) 0 ≡ false → ⊥
 not-refused e f = false≢true (sym f ∙ ap (λ a. eqb (a .refusal .number) 0) e)
 
-command-read : {l : List ℕ} {c : Command} → SpellsCommand l c → commandOf l ≡ says c
+command-read : {rev : Revision} {l : List ℕ} {c : Command} → SpellsCommand rev l c → commandOf rev l ≡ says c
 unfolding commandOf
 command-read w = ap onForm (form-read (w .spelt)) ∙ means-read (w .means)
 
@@ -136,25 +137,25 @@ abbrev HasForm : Formed → Type 0
 HasForm (is f) = Unit {0}
 HasForm C.no-form = ⊥
 
-command-sound : (l : List ℕ) → CommandSays l (commandOf l)
+command-sound : {rev : Revision} (l : List ℕ) → CommandSays rev l (commandOf rev l)
 unfolding commandOf
-command-sound l = by (formOf l) refl
+command-sound {rev} l = by (formOf rev l) refl
   where
-    of-form : (f : Form) → Spells l f → (a : LineAnswer) → meaningOf f ≡ a → Meaning f a → CommandSays l a
+    of-form : (f : Form) → Spells rev l f → (a : LineAnswer) → meaningOf f ≡ a → Meaning f a → CommandSays rev l a
     of-form f w a e (means m) = spells (record { form = f; spelt = w; means = m })
     of-form f w a e no-meaning = meaningless w (λ c m. not-refused (sym e ∙ means-read m) refl)
 
-    by : (x : Formed) → formOf l ≡ x → CommandSays l (onForm x)
-    by (is f) e = of-form f (subst (Sound l) e (form-sound l)) (meaningOf f) refl (meaning f)
+    by : (x : Formed) → formOf rev l ≡ x → CommandSays rev l (onForm x)
+    by (is f) e = of-form f (subst (Sound rev l) e (form-sound rev l)) (meaningOf f) refl (meaning f)
     by C.no-form e = formless (λ f w. subst HasForm (sym (form-read w) ∙ e) tt)
 
-command-answer : {l : List ℕ} {a : LineAnswer} → CommandSays l a → commandOf l ≡ a
+command-answer : {rev : Revision} {l : List ℕ} {a : LineAnswer} → CommandSays rev l a → commandOf rev l ≡ a
 unfolding commandOf
 command-answer (spells w) = command-read w
-command-answer {l} (formless h) = by (formOf l) refl
+command-answer {rev} {l} (formless h) = by (formOf rev l) refl
   where
-    by : (x : Formed) → formOf l ≡ x → onForm x ≡ saysNo noSuchForm
-    by (is f) e = absurd (h f (subst (Sound l) e (form-sound l)))
+    by : (x : Formed) → formOf rev l ≡ x → onForm x ≡ saysNo noSuchForm
+    by (is f) e = absurd (h f (subst (Sound rev l) e (form-sound rev l)))
     by C.no-form e = refl
 command-answer (meaningless {f = f} w h) = ap onForm (form-read w) ∙ by (meaningOf f) (meaning f)
   where
@@ -162,15 +163,15 @@ command-answer (meaningless {f = f} w h) = ap onForm (form-read w) ∙ by (meani
     by a (means {c = c} m) = absurd (h c m)
     by a no-meaning = refl
 
-says-command : {l : List ℕ} {a : LineAnswer} {c : Command} → CommandSays l a → a ≡ says c → SpellsCommand l c
-says-command {l} (spells w) e = subst (SpellsCommand l) (ap (λ a. a .command) e) w
+says-command : {rev : Revision} {l : List ℕ} {a : LineAnswer} {c : Command} → CommandSays rev l a → a ≡ says c → SpellsCommand rev l c
+says-command {rev} {l} (spells w) e = subst (SpellsCommand rev l) (ap (λ a. a .command) e) w
 says-command (formless h) e = absurd (not-refused e refl)
 says-command (meaningless w h) e = absurd (not-refused e refl)
 
-pub command-iff : (l : List ℕ) (c : Command) → (commandOf l ≡ says c → SpellsCommand l c) × (SpellsCommand l c → commandOf l ≡ says c)
+pub command-iff : {rev : Revision} (l : List ℕ) (c : Command) → (commandOf rev l ≡ says c → SpellsCommand rev l c) × (SpellsCommand rev l c → commandOf rev l ≡ says c)
 command-iff l c = (λ e. says-command (command-sound l) e, command-read)
 
-pub one-command : {l : List ℕ} {c d : Command} → SpellsCommand l c → SpellsCommand l d → c ≡ d
+pub one-command : {rev : Revision} {l : List ℕ} {c d : Command} → SpellsCommand rev l c → SpellsCommand rev l d → c ≡ d
 one-command v w = ap (λ a. a .command) (sym (command-read v) ∙ command-read w)
 
 -- ---- a line of a file
@@ -189,41 +190,42 @@ read-printable (b ∷ l) e =
     byte (leb-true 32 b (g .0)) (leb-true b 126 (g .1)) (read-printable l (h .1))
 
 -- what is said of a line's bytes: the command that they spell, or why they spell none
-abbrev pub LineSays : List ℕ → Out Command Refusal → Type 0
-LineSays l (yields c) = SpellsLine l c
-LineSays l (stops e) = LineRefused l e
+abbrev pub LineSays : Revision → List ℕ → Out Command Refusal → Type 0
+LineSays rev l (yields c) = SpellsLine rev l c
+LineSays rev l (stops e) = LineRefused rev l e
 
-allowed : {l : List ℕ} {a : LineAnswer} → length l ≤ maxLine → Printable l → CommandSays l a → LineSays l (sayOut a)
+allowed : {rev : Revision} {l : List ℕ} {a : LineAnswer} → length l ≤ maxLine → Printable l → CommandSays rev l a → LineSays rev l (sayOut a)
 allowed s p (spells w) = record { short = s; printable = p; command = w }
 allowed s p (formless h) = no-form s p h
 allowed s p (meaningless w h) = no-command s p w h
 
-pub line-sound : (l : List ℕ) → LineSays l (sayOut (lineOf l))
+pub line-sound : (rev : Revision) (l : List ℕ) → LineSays rev l (sayOut (lineOf rev l))
 unfolding lineOf
-line-sound l =
-    cond-all (λ a. LineSays l (sayOut a)) (leb (length l) maxLine) {b = saysNo lineTooLong}
-    (λ s. cond-all (λ a. LineSays l (sayOut a)) (isPrintable l) {b = saysNo forbiddenByte}
+line-sound rev l =
+    cond-all (λ a. LineSays rev l (sayOut a)) (leb (length l) maxLine) {b = saysNo lineTooLong}
+    (λ s. cond-all (λ a. LineSays rev l (sayOut a)) (isPrintable l) {b = saysNo forbiddenByte}
     (λ p. allowed (leb-true (length l) maxLine s) (read-printable l p) (command-sound l))
     (λ p. forbidden (leb-true (length l) maxLine s) (λ w. false≢true (sym p ∙ printable-read w))))
     (λ s. too-long (leb-false (length l) maxLine s))
 
-line-answers : {l : List ℕ} {a : LineAnswer} → length l ≤ maxLine → Printable l → CommandSays l a → lineOf l ≡ a
+line-answers : {rev : Revision} {l : List ℕ} {a : LineAnswer} → length l ≤ maxLine → Printable l → CommandSays rev l a → lineOf rev l ≡ a
 unfolding lineOf
-line-answers {l} s p w = rw (le-leb (length l) maxLine s, printable-read p) (command-answer w)
+line-answers {rev} {l} s p w = rw (le-leb (length l) maxLine s, printable-read p) (command-answer w)
 
-pub line-read : {l : List ℕ} {c : Command} → SpellsLine l c → lineOf l ≡ says c
+pub line-read : {rev : Revision} {l : List ℕ} {c : Command} → SpellsLine rev l c → lineOf rev l ≡ says c
 line-read w = line-answers (w .short) (w .printable) (spells (w .command))
 
-refused-line : {l : List ℕ} {e : Refusal} → LineRefused l e → sayOut (lineOf l) ≡ stops e
+refused-line : {rev : Revision} {l : List ℕ} {e : Refusal} → LineRefused rev l e → sayOut (lineOf rev l) ≡ stops e
 unfolding lineOf
-refused-line {l} (too-long h) = rw (lt-leb (length l) maxLine h)
-refused-line {l} (forbidden s h) =
+refused-line {rev} {l} (too-long h) = rw (lt-leb (length l) maxLine h)
+refused-line {rev} {l} (forbidden s h) =
     rw (le-leb (length l) maxLine s)
     (cond-all (λ a. sayOut a ≡ stops forbiddenByte) (isPrintable l) (λ p. absurd (h (read-printable l p))) (λ _. refl))
 refused-line (no-form s p h) = ap sayOut (line-answers s p (formless h))
 refused-line (no-command s p w h) = ap sayOut (line-answers s p (meaningless w h))
 
 -- each answer is given exactly where what it says is so
-pub line-says : (l : List ℕ) (o : Out Command Refusal) → (sayOut (lineOf l) ≡ o → LineSays l o) × (LineSays l o → sayOut (lineOf l) ≡ o)
-line-says l (yields c) = (λ e. subst (LineSays l) e (line-sound l), λ w. ap sayOut (line-read w))
-line-says l (stops e) = (λ d. subst (LineSays l) d (line-sound l), refused-line)
+pub line-says : (rev : Revision) (l : List ℕ) (o : Out Command Refusal)
+    → (sayOut (lineOf rev l) ≡ o → LineSays rev l o) × (LineSays rev l o → sayOut (lineOf rev l) ≡ o)
+line-says rev l (yields c) = (λ e. subst (LineSays rev l) e (line-sound rev l), λ w. ap sayOut (line-read w))
+line-says rev l (stops e) = (λ d. subst (LineSays rev l) d (line-sound rev l), refused-line)

@@ -11,6 +11,7 @@ use Rattle.runs.specs.Machine.{Out, yields, stops}
 use Rattle.rules.specs.declared.Command.{Command}
 use Rattle.rules.specs.declared.Refusal.{Refusal}
 use Rattle.rules.specs.declared.LineAnswer.{LineAnswer}
+use Rattle.rules.specs.declared.Revision.{Revision}
 use Rattle.rules.specs.Numbers.{maxLines}
 use Rattle.rules.specs.Lines.{LF, CR, Line, linesOf, endsInCR, textOf}
 use Rattle.rules.specs.Refusals.{tooManyLines, lineNotEnded}
@@ -38,61 +39,61 @@ text-cut l = by (endsInCR l) refl
 -- ---- line i of a file
 
 -- it is a command: it is ended, and its bytes without its end spell that command
-pub record LineReads (i : ℕ) (l : Line) (c : Command) : Type 0 where
+pub record LineReads (rev : Revision) (i : ℕ) (l : Line) (c : Command) : Type 0 where
   pub counted : i ≤ maxLines
   pub ends : l .ended ≡ true
-  pub spelling : SpellsLine (textOf (l .bytes)) c
+  pub spelling : SpellsLine rev (textOf (l .bytes)) c
 
 -- or it is none: 2, there are more lines than allowed; or 3, it is not ended; or its bytes spell none
-pub data LineFault (i : ℕ) (l : Line) : Refusal → Type 0 where
-  beyond : maxLines < i → LineFault i l tooManyLines
-  unended : i ≤ maxLines → l .ended ≡ false → LineFault i l lineNotEnded
-  unread : {e : Refusal} → i ≤ maxLines → l .ended ≡ true → LineRefused (textOf (l .bytes)) e → LineFault i l e
+pub data LineFault (rev : Revision) (i : ℕ) (l : Line) : Refusal → Type 0 where
+  beyond : maxLines < i → LineFault rev i l tooManyLines
+  unended : i ≤ maxLines → l .ended ≡ false → LineFault rev i l lineNotEnded
+  unread : {e : Refusal} → i ≤ maxLines → l .ended ≡ true → LineRefused rev (textOf (l .bytes)) e → LineFault rev i l e
 
-abbrev InFile : ℕ → Line → Out Command Refusal → Type 0
-InFile i l (yields c) = LineReads i l c
-InFile i l (stops e) = LineFault i l e
+abbrev InFile : Revision → ℕ → Line → Out Command Refusal → Type 0
+InFile rev i l (yields c) = LineReads rev i l c
+InFile rev i l (stops e) = LineFault rev i l e
 
-ended-says : (i : ℕ) (l : Line) (o : Out Command Refusal) → i ≤ maxLines → l .ended ≡ true → LineSays (textOf (l .bytes)) o → InFile i l o
-ended-says i l (yields c) h e w = record { counted = h; ends = e; spelling = w }
-ended-says i l (stops r) h e w = unread h e w
+ended-says : (rev : Revision) (i : ℕ) (l : Line) (o : Out Command Refusal) → i ≤ maxLines → l .ended ≡ true → LineSays rev (textOf (l .bytes)) o → InFile rev i l o
+ended-says rev i l (yields c) h e w = record { counted = h; ends = e; spelling = w }
+ended-says rev i l (stops r) h e w = unread h e w
 
-in-file-sound : (i : ℕ) (l : Line) → InFile i l (commandIn i l)
+in-file-sound : (rev : Revision) (i : ℕ) (l : Line) → InFile rev i l (commandIn rev i l)
 unfolding commandIn answerIn
-in-file-sound i l =
-    cond-all (λ (a : LineAnswer). InFile i l (sayOut a)) (leb i maxLines) {b = saysNo tooManyLines}
-    (λ h. cond-all (λ (a : LineAnswer). InFile i l (sayOut a)) (l .ended) {b = saysNo lineNotEnded}
-    (λ e. ended-says i l (sayOut (lineOf (textOf (l .bytes)))) (leb-true i maxLines h) e (line-sound (textOf (l .bytes))))
+in-file-sound rev i l =
+    cond-all (λ (a : LineAnswer). InFile rev i l (sayOut a)) (leb i maxLines) {b = saysNo tooManyLines}
+    (λ h. cond-all (λ (a : LineAnswer). InFile rev i l (sayOut a)) (l .ended) {b = saysNo lineNotEnded}
+    (λ e. ended-says rev i l (sayOut (lineOf rev (textOf (l .bytes)))) (leb-true i maxLines h) e (line-sound rev (textOf (l .bytes))))
     (λ e. unended (leb-true i maxLines h) e))
     (λ h. beyond (leb-false i maxLines h))
 
-fault-stops : {i : ℕ} {l : Line} {e : Refusal} → LineFault i l e → commandIn i l ≡ stops e
+fault-stops : {rev : Revision} {i : ℕ} {l : Line} {e : Refusal} → LineFault rev i l e → commandIn rev i l ≡ stops e
 unfolding commandIn answerIn
-fault-stops {i} (beyond h) = rw (lt-leb i maxLines h)
-fault-stops {i} (unended h e) = rw (le-leb i maxLines h, e)
-fault-stops {i} {l} (unread {e = r} h e w) =
-    let a : answerIn i l ≡ lineOf (textOf (l .bytes)) = rw (le-leb i maxLines h, e) in
-    ap sayOut a ∙ line-says (textOf (l .bytes)) (stops r) .1 w
+fault-stops {rev} {i} (beyond h) = rw (lt-leb i maxLines h)
+fault-stops {rev} {i} (unended h e) = rw (le-leb i maxLines h, e)
+fault-stops {rev} {i} {l} (unread {e = r} h e w) =
+    let a : answerIn rev i l ≡ lineOf rev (textOf (l .bytes)) = rw (le-leb i maxLines h, e) in
+    ap sayOut a ∙ line-says rev (textOf (l .bytes)) (stops r) .1 w
 
 -- it is refused exactly where it is at fault, and so; and is a command exactly where it reads as one
-pub line-fault : (i : ℕ) (l : Line) (e : Refusal) → (commandIn i l ≡ stops e → LineFault i l e) × (LineFault i l e → commandIn i l ≡ stops e)
-line-fault i l e = (λ d. subst (InFile i l) d (in-file-sound i l), fault-stops)
+pub line-fault : {rev : Revision} (i : ℕ) (l : Line) (e : Refusal) → (commandIn rev i l ≡ stops e → LineFault rev i l e) × (LineFault rev i l e → commandIn rev i l ≡ stops e)
+line-fault {rev} i l e = (λ d. subst (InFile rev i l) d (in-file-sound rev i l), fault-stops)
 
-pub yields-line : (i : ℕ) (l : Line) (c : Command) → commandIn i l ≡ yields c → LineReads i l c
-yields-line i l c e = subst (InFile i l) e (in-file-sound i l)
+pub yields-line : {rev : Revision} (i : ℕ) (l : Line) (c : Command) → commandIn rev i l ≡ yields c → LineReads rev i l c
+yields-line {rev} i l c e = subst (InFile rev i l) e (in-file-sound rev i l)
 
-pub line-yields : {i : ℕ} {l : Line} {c : Command} → LineReads i l c → commandIn i l ≡ yields c
+pub line-yields : {rev : Revision} {i : ℕ} {l : Line} {c : Command} → LineReads rev i l c → commandIn rev i l ≡ yields c
 unfolding commandIn answerIn
-line-yields {i} w = rw (le-leb i maxLines (w .counted), w .ends, line-read (w .spelling))
+line-yields {rev} {i} w = rw (le-leb i maxLines (w .counted), w .ends, line-read (w .spelling))
 
 -- ---- a line and the lines after it, as bytes of a file
 
-cut-spells : {b t rest : List ℕ} {c : Command} {cs : List Command} → CutTo b t → SpellsLine t c → SpellsFile rest cs → SpellsFile (b ++ (LF ∷ rest)) (c ∷ cs)
+cut-spells : {rev : Revision} {b t rest : List ℕ} {c : Command} {cs : List Command} → CutTo b t → SpellsLine rev t c → SpellsFile rev rest cs → SpellsFile rev (b ++ (LF ∷ rest)) (c ∷ cs)
 cut-spells same w f = line w lf f
-cut-spells {rest = rest} {c} {cs} (less {t = t}) w f = subst (λ (z : List ℕ). SpellsFile z (c ∷ cs)) (sym (append-assoc t (CR ∷ []) (LF ∷ rest))) (line w crlf f)
+cut-spells {rev} {rest = rest} {c} {cs} (less {t = t}) w f = subst (λ (z : List ℕ). SpellsFile rev z (c ∷ cs)) (sym (append-assoc t (CR ∷ []) (LF ∷ rest))) (line w crlf f)
 
-pub spells-first : {i : ℕ} (l : Line) (rest : List ℕ) (c : Command) (cs : List Command) → LineReads i l c → SpellsFile rest cs
-    → SpellsFile (l .bytes ++ (cond (l .ended) (LF ∷ []) [] ++ rest)) (c ∷ cs)
+pub spells-first : {rev : Revision} {i : ℕ} (l : Line) (rest : List ℕ) (c : Command) (cs : List Command) → LineReads rev i l c → SpellsFile rev rest cs
+    → SpellsFile rev (l .bytes ++ (cond (l .ended) (LF ∷ []) [] ++ rest)) (c ∷ cs)
 spells-first l rest c cs w f = rw (w .ends) (cut-spells (text-cut (l .bytes)) (w .spelling) f)
 
 -- a spelled line and its end fall into one line, whose text it is

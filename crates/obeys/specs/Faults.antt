@@ -11,6 +11,7 @@ use Rattle.rules.specs.declared.Command.{Command}
 use Rattle.rules.specs.declared.Command.the-variants.{Comment, M48, Metric, Inch, Declare, Percent, G05, G00, Select, Hit, M15, M16, G01, G02, G03, M30}
 use Rattle.rules.specs.declared.State.{State}
 use Rattle.rules.specs.declared.Refusal.{Refusal}
+use Rattle.rules.specs.declared.Revision.{Revision}
 use Rattle.rules.specs.Refusals.{fileTooLong, tooManyLines, lineNotEnded, lineTooLong, forbiddenByte, noSuchForm, outOfRange, wrongPhase, wrongMotion, declaredAlready, notDeclared, noToolSelected, impossibleArc, endsTooSoon}
 use Rattle.rules.specs.Numbers.{maxFile, maxLines, maxLine}
 use Rattle.rules.specs.Lines.{NoLF}
@@ -75,28 +76,28 @@ pub data Untaken (s : State) : Command → Refusal → Type 0 where
 -- ---- a line that is no command
 
 -- why a line's bytes, without their end, spell no command: 6, 4, 5 or 7, in this order
-pub data LineRefused (l : List ℕ) : Refusal → Type 0 where
-  too-long : maxLine < length l → LineRefused l lineTooLong
-  forbidden : length l ≤ maxLine → (Printable l → ⊥) → LineRefused l forbiddenByte
-  no-form : length l ≤ maxLine → Printable l → ((f : Form) → Spells l f → ⊥) → LineRefused l noSuchForm
-  no-command : {f : Form} → length l ≤ maxLine → Printable l → Spells l f → ((c : Command) → Means f c → ⊥)
-      → LineRefused l outOfRange
+pub data LineRefused (rev : Revision) (l : List ℕ) : Refusal → Type 0 where
+  too-long : maxLine < length l → LineRefused rev l lineTooLong
+  forbidden : length l ≤ maxLine → (Printable l → ⊥) → LineRefused rev l forbiddenByte
+  no-form : length l ≤ maxLine → Printable l → ((f : Form) → Spells rev l f → ⊥) → LineRefused rev l noSuchForm
+  no-command : {f : Form} → length l ≤ maxLine → Printable l → Spells rev l f → ((c : Command) → Means f c → ⊥)
+      → LineRefused rev l outOfRange
 
 -- ---- a file that is refused
 
 -- at line i the bytes bs are left, in state p: there is no line, and the run has not ended; or there is one too many; or it
 -- isn't ended; or it is no command; or it is one that may not come
-pub data Fault (i : ℕ) (p : State) (bs : List ℕ) : Refusal → Type 0 where
-  missing : bs ≡ [] → (p .phase ≡ over → ⊥) → Fault i p bs endsTooSoon
-  too-many : (bs ≡ [] → ⊥) → maxLines < i → Fault i p bs tooManyLines
-  not-ended : (bs ≡ [] → ⊥) → i ≤ maxLines → NoLF bs → Fault i p bs lineNotEnded
-  unread : {l rest : List ℕ} {e : Refusal} → i ≤ maxLines → FirstLine bs l rest → LineRefused l e → Fault i p bs e
-  untaken : {l rest : List ℕ} {c : Command} {e : Refusal} → i ≤ maxLines → FirstLine bs l rest → SpellsLine l c → Untaken p c e
-      → Fault i p bs e
+pub data Fault (rev : Revision) (i : ℕ) (p : State) (bs : List ℕ) : Refusal → Type 0 where
+  missing : bs ≡ [] → (p .phase ≡ over → ⊥) → Fault rev i p bs endsTooSoon
+  too-many : (bs ≡ [] → ⊥) → maxLines < i → Fault rev i p bs tooManyLines
+  not-ended : (bs ≡ [] → ⊥) → i ≤ maxLines → NoLF bs → Fault rev i p bs lineNotEnded
+  unread : {l rest : List ℕ} {e : Refusal} → i ≤ maxLines → FirstLine bs l rest → LineRefused rev l e → Fault rev i p bs e
+  untaken : {l rest : List ℕ} {c : Command} {e : Refusal} → i ≤ maxLines → FirstLine bs l rest → SpellsLine rev l c → Untaken p c e
+      → Fault rev i p bs e
 
 -- a file is too large; or its first lines are as those of a file that obeys, and the line after them is at fault
-pub data Faulty (bs : List ℕ) : Refusal → ℕ → Type 0 where
-  too-large : maxFile < length bs → Faulty bs fileTooLong 0
+pub data Faulty (rev : Revision) (bs : List ℕ) : Refusal → ℕ → Type 0 where
+  too-large : maxFile < length bs → Faulty rev bs fileTooLong 0
   at-line : {head left : List ℕ} {rs : Rows} {e : Refusal} → length bs ≤ maxFile → bs ≡ head ++ left → length rs ≤ maxLines
-      → SpellsFile head (commandsOf rs) → Follows Takes start 0 rs → Fault (length rs + 1) (lastOf start rs) left e
-      → Faulty bs e (length rs + 1)
+      → SpellsFile rev head (commandsOf rs) → Follows Takes start 0 rs → Fault rev (length rs + 1) (lastOf start rs) left e
+      → Faulty rev bs e (length rs + 1)

@@ -10,6 +10,7 @@ use Rattle.lists.specs.Exactly.{Exactly}
 use Rattle.rules.specs.declared.Answer.{Answer}
 use Rattle.rules.specs.declared.Answer.the-variants.{Done}
 use Rattle.rules.specs.declared.HoleAnswer.{HoleAnswer}
+use Rattle.rules.specs.declared.Revision.{Revision}
 use Rattle.rules.specs.Numbers.{maxFile}
 use Rattle.rules.specs.Rows.{rowWidth, tableNumbers, Good}
 use Rattle.rules.specs.Reading.{Rows, rowOf, stateBefore, readAnswer, readLeaves}
@@ -34,15 +35,18 @@ use Rattle.promises.specs.OfTheCode.{ReadsFile, OfTheCode}
 
 -- ---- what the contracts say of a call
 
-read-says : {file : List ℕ} {table left : List ℤ} {answer : Answer} → ReadCall file table answer left
-    → (answer ≡ readAnswer file table) × (left ≡ readLeaves file table)
-read-says c = (said-one (c .promised .0 ∙ rw (c .file-is, c .table-is)), sym (c .left-is) ∙ c .promised .1 ∙ rw (c .file-is, c .table-is))
+read-says : {file : List ℕ} {rev : Revision} {table left : List ℤ} {answer : Answer} → ReadCall file rev table answer left
+    → (answer ≡ readAnswer rev file table) × (left ≡ readLeaves rev file table)
+read-says c = (
+  said-one (c .promised .0 ∙ rw (c .file-is, c .revision-is, c .table-is)),
+  sym (c .left-is) ∙ c .promised .1 ∙ rw (c .file-is, c .revision-is, c .table-is),
+)
 
-edit-says : {table left : List ℤ} {n line : ℕ} {text : List ℕ} {answer : Answer} → EditCall table n line text answer left
-    → (answer ≡ editAnswer table n line text) × (left ≡ editLeaves table n line text)
+edit-says : {table left : List ℤ} {n line : ℕ} {text : List ℕ} {rev : Revision} {answer : Answer} → EditCall table n line text rev answer left
+    → (answer ≡ editAnswer rev table n line text) × (left ≡ editLeaves rev table n line text)
 edit-says c = (
-  said-one (c .promised .answer ∙ rw (c .table-is, c .n-is, c .line-is, c .text-is)),
-  sym (c .left-is) ∙ c .promised .leaves ∙ rw (c .table-is, c .n-is, c .line-is, c .text-is),
+  said-one (c .promised .answer ∙ rw (c .table-is, c .n-is, c .line-is, c .text-is, c .revision-is)),
+  sym (c .left-is) ∙ c .promised .leaves ∙ rw (c .table-is, c .n-is, c .line-is, c .text-is, c .revision-is),
 )
 
 hole-says : {table : List ℤ} {n line : ℕ} {answer : HoleAnswer} → HoleCall table n line answer → answer ≡ holeAnswer table n line
@@ -61,29 +65,29 @@ exactly e w = (λ h. w .0 (sym e ∙ h), λ p. e ∙ w .1 p)
 
 -- ---- reading
 
-module _ (file : List ℕ) (table : List ℤ) (answer : Answer) (left : List ℤ) (c : ReadCall file table answer left) where
-  accepted : (rs : Rows) → ReadingOf file rs → rowWidth * length rs ≤ length table
+module _ (file : List ℕ) (rev : Revision) (table : List ℤ) (answer : Answer) (left : List ℤ) (c : ReadCall file rev table answer left) where
+  accepted : (rs : Rows) → ReadingOf rev file rs → rowWidth * length rs ≤ length table
       → (answer ≡ Done (length rs)) × (left ≡ putAt table 0 (tableNumbers rs)) × Good left (length rs) rs
   accepted rs w h =
       let s = read-says c in
-      let d = demand-2 .reads file table .accepted rs w h in
-      let k = demand-2 .reads file table .holds (length rs) rs d w in
+      let d = demand-2 .reads rev file table .accepted rs w h in
+      let k = demand-2 .reads rev file table .holds (length rs) rs d w in
       (s .0 ∙ d, s .1 ∙ k .numbers, subst (λ (t : List ℤ). Good t (length rs) rs) (sym (s .1)) (k .good))
 
-  holes : (n : ℕ) (rs : Rows) → answer ≡ Done n → ReadingOf file rs → (k : ℕ) → 1 ≤ k → k ≤ n → (hole : HoleAnswer) → HoleCall left n k hole
+  holes : (n : ℕ) (rs : Rows) → answer ≡ Done n → ReadingOf rev file rs → (k : ℕ) → 1 ≤ k → k ≤ n → (hole : HoleAnswer) → HoleCall left n k hole
       → hole ≡ holeOf (stateBefore rs k .at) (rowOf rs k .command) (rowOf rs k .state)
   holes n rs e w k a b hole d =
       let s = read-says c in
-      hole-says d ∙ ap (λ (t : List ℤ). holeAnswer t n k) (s .1) ∙ demand-2 .reads file table .holds n rs (sym (s .0) ∙ e) w .holes k a b
+      hole-says d ∙ ap (λ (t : List ℤ). holeAnswer t n k) (s .1) ∙ demand-2 .reads rev file table .holds n rs (sym (s .0) ∙ e) w .holes k a b
 
-  reads-file : ReadsFile file table answer left
+  reads-file : ReadsFile file rev table answer left
   reads-file =
       let s = read-says c in
       record {
-        refused = λ e i h. s .1 ∙ demand-1 .read file table .refused e i (sym (s .0) ∙ h) .0;
-        obeys = λ n h. demand-2 .reads file table .obeys n (sym (s .0) ∙ h);
+        refused = λ e i h. s .1 ∙ demand-1 .read rev file table .refused e i (sym (s .0) ∙ h) .0;
+        obeys = λ n h. demand-2 .reads rev file table .obeys n (sym (s .0) ∙ h);
         accepted = accepted;
-        refused-exactly = λ e i. exactly (s .0) (demand-2 .reads file table .refused e i);
+        refused-exactly = λ e i. exactly (s .0) (demand-2 .reads rev file table .refused e i);
         holes = holes;
       }
 
@@ -91,9 +95,9 @@ module _ (file : List ℕ) (table : List ℤ) (answer : Answer) (left : List ℤ
 
 read-back : (table : List ℤ) (n : ℕ) (rs : Rows) → Good table n rs → (block : List ℕ) (m : ℕ) (text : List ℕ)
     → WriteCall table n block (Done m) text → (lent : List ℤ) → rowWidth * length (withoutComments rs) ≤ length lent
-    → (answer : Answer) (left : List ℤ) → ReadCall (take m text) lent answer left
+    → (rev : Revision) (answer : Answer) (left : List ℤ) → ReadCall (take m text) rev lent answer left
     → (answer ≡ Done (length (withoutComments rs))) × (left ≡ putAt lent 0 (tableNumbers (withoutComments rs)))
-read-back table n rs g block m text c lent h answer left d =
+read-back table n rs g block m text c lent h rev answer left d =
     let s = write-says c in
     let f = write-done table n block m (sym (s .0)) in
     let e : f .rows ≡ rs = let q = sym (f .verdict) ∙ good-rows table n rs g in cc in
@@ -102,33 +106,33 @@ read-back table n rs g block m text c lent h answer left d =
     let k : m ≡ length (textOfRows rs) = sym (f .counted) ∙ ap (λ (z : Rows). length (textOfRows z)) e in
     let x : take m text ≡ textOfRows rs = rw (k, s .1) (o .found) in
     let r = read-says d in
-    let back = b .reads-back lent h in
-    (r .0 ∙ ap (λ (z : List ℕ). readAnswer z lent) x ∙ back .answer, r .1 ∙ ap (λ (z : List ℕ). readLeaves z lent) x ∙ back .table)
+    let back = b .reads-back rev lent h in
+    (r .0 ∙ ap (λ (z : List ℕ). readAnswer rev z lent) x ∙ back .answer, r .1 ∙ ap (λ (z : List ℕ). readLeaves rev z lent) x ∙ back .table)
 
 -- ---- an edit, and the edited file read afresh
 
-as-afresh : (file : List ℕ) (lent : List ℤ) (n : ℕ) (table : List ℤ) → ReadCall file lent (Done n) table
+as-afresh : (file : List ℕ) (rev : Revision) (lent : List ℤ) (n : ℕ) (table : List ℤ) → ReadCall file rev lent (Done n) table
     → (k : ℕ) (w : LineOf file k) (text : List ℕ) → noLineEnd text ≡ true → length (edited w text) ≤ maxFile
-    → (edit-answer : Answer) (after : List ℤ) → EditCall table n k text edit-answer after
-    → (fresh-answer : Answer) (fresh : List ℤ) → ReadCall (edited w text) table fresh-answer fresh
-    → SameVerdict n edit-answer fresh-answer × (after ≡ fresh) × SpanIs file (edited w text) table after n k edit-answer
-as-afresh file lent n table c k w text hl hb edit-answer after d fresh-answer fresh f =
+    → (edit-answer : Answer) (after : List ℤ) → EditCall table n k text rev edit-answer after
+    → (fresh-answer : Answer) (fresh : List ℤ) → ReadCall (edited w text) rev table fresh-answer fresh
+    → SameVerdict n edit-answer fresh-answer × (after ≡ fresh) × SpanIs rev file (edited w text) table after n k edit-answer
+as-afresh file rev lent n table c k w text hl hb edit-answer after d fresh-answer fresh f =
     let old = read-says c in
-    let a : AsReadAfresh file (edited w text) table n k text
-    = subst (λ (u : List ℤ). AsReadAfresh file (edited w text) u n k text) (sym (old .1)) (demand-3 .as-read-afresh file lent n (sym (old .0)) k w text hl hb) in
+    let a : AsReadAfresh rev file (edited w text) table n k text
+    = subst (λ (u : List ℤ). AsReadAfresh rev file (edited w text) u n k text) (sym (old .1)) (demand-3 rev .as-read-afresh file lent n (sym (old .0)) k w text hl hb) in
     let e = edit-says d in
     let r = read-says f in (
       subst₂ (SameVerdict n) (sym (e .0)) (sym (r .0)) (a .verdict),
       e .1 ∙ a .table ∙ sym (r .1),
-      subst₂ (λ (u : List ℤ) (x : Answer). SpanIs file (edited w text) table u n k x) (sym (e .1)) (sym (e .0)) (a .span),
+      subst₂ (λ (u : List ℤ) (x : Answer). SpanIs rev file (edited w text) table u n k x) (sym (e .1)) (sym (e .0)) (a .span),
     )
 
 pub of-the-code : OfTheCode
 of-the-code = record {
   read = reads-file;
-  refused-edit = λ table n line text e i left c. let s = edit-says c in s .1 ∙ demand-1 .edit table n line text .refused e i (sym (s .0)) .0;
+  refused-edit = λ table n line text rev e i left c. let s = edit-says c in s .1 ∙ demand-1 .edit rev table n line text .refused e i (sym (s .0)) .0;
   refused-write = λ table n block e i left c. let s = write-says c in s .1 ∙ demand-1 .write table n block .refused e i (sym (s .0)) .0;
-  edit-exactly = λ table n line text answer left c e i. exactly (edit-says c .0) (edit-refused-exactly .refused table n line text e i);
+  edit-exactly = λ table n line text rev answer left c e i. exactly (edit-says c .0) (edit-refused-exactly .refused rev table n line text e i);
   hole-exactly = λ table n line answer c e i. exactly (hole-says c) (hole-refused-exactly .refused table n line e i);
   write-exactly = λ table n block answer left c e i. exactly (write-says c .0) (write-exactly .writes table n block .refused e i);
   written-read-back = read-back;

@@ -269,7 +269,7 @@ spell-put-line κs a x y e f p q = (same (p .end) (q .end), same (p .bytes) (q .
 
 -- ---- crate reader
 
-pub reader-read : OneOutcome 2 reader-read-kinds.ps reader-read-kinds.r reader-read-reads.Post (λ κs e. e .1 .0 .now)
+pub reader-read : OneOutcome 2 reader-read-kinds.ps reader-read-kinds.r reader-read-reads.Post (λ κs e. e .1 .1 .0 .now)
 reader-read κs a x y e f p q = (said-one (same (p .0) (q .0)), same (p .1) (q .1))
 
 -- ---- crate query
@@ -306,15 +306,15 @@ print-hole-line κs a x y e f p q = (same (p .count) (q .count), same (p .bytes)
 
 -- ---- crate report: the text, and the table
 
-pub report-holes : OneOutcome 3 report-holes-kinds.ps report-holes-kinds.r report-holes-reads.Post (λ κs e. e .1 .1 .0 .now)
+pub report-holes : OneOutcome 3 report-holes-kinds.ps report-holes-kinds.r report-holes-reads.Post (λ κs e. e .1 .1 .1 .0 .now)
 report-holes κs a x y e f p q = (same (p .count) (q .count), same (p .bytes) (q .bytes))
 
-pub report-holes-table : OneOutcome 3 report-holes-kinds.ps report-holes-kinds.r report-holes-reads.Post (λ κs e. e .1 .0 .now)
+pub report-holes-table : OneOutcome 3 report-holes-kinds.ps report-holes-kinds.r report-holes-reads.Post (λ κs e. e .1 .1 .0 .now)
 report-holes-table κs a x y e f p q = (same (p .count) (q .count), same (p .numbers) (q .numbers))
 
 -- ---- crate xnc, the door
 
-pub xnc-read : OneOutcome 2 xnc-read-kinds.ps xnc-read-kinds.r xnc-read-reads.Post (λ κs e. e .1 .0 .now)
+pub xnc-read : OneOutcome 2 xnc-read-kinds.ps xnc-read-kinds.r xnc-read-reads.Post (λ κs e. e .1 .1 .0 .now)
 xnc-read κs a x y e f p q = (same (p .0) (q .0), same (p .1) (q .1))
 
 pub xnc-edit : OneOutcome 2 xnc-edit-kinds.ps xnc-edit-kinds.r xnc-edit-reads.Post (λ κs e. e .0 .now)

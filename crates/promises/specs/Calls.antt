@@ -6,6 +6,7 @@ use lib.IntN.{ℤ}
 use contract.Lifetimes.{Lfts}
 use borrow.Fn.Kinds.{Dens, endedOf}
 use denote.Triple.Clauses.{AtExit}
+use Rattle.rules.specs.declared.Revision.{Revision}
 use Rattle.rules.specs.declared.Answer.{Answer}
 use Rattle.rules.specs.declared.HoleAnswer.{HoleAnswer}
 use Rattle.reader.proofs.read.Kinds as read-kinds
@@ -17,18 +18,19 @@ use Rattle.query.proofs.hole.Reads as hole-reads
 use Rattle.writer.proofs.write.Kinds as write-kinds
 use Rattle.writer.proofs.write.Reads as write-reads
 
--- read(file, table)
-pub record ReadCall (file : List ℕ) (table : List ℤ) (answer : Answer) (left : List ℤ) : Type 0 where
+-- read(file, revision, table)
+pub record ReadCall (file : List ℕ) (rev : Revision) (table : List ℤ) (answer : Answer) (left : List ℤ) : Type 0 where
   pub lifetimes : Lfts 2
   pub given : Dens lifetimes read-kinds.ps
   pub after : AtExit (endedOf 2 read-kinds.ps read-kinds.r) lifetimes
   pub file-is : given .0 .now ≡ file
-  pub table-is : given .1 .0 .now ≡ table
-  pub left-is : after .1 .0 .now ≡ left
+  pub revision-is : given .1 .0 ≡ rev
+  pub table-is : given .1 .1 .0 .now ≡ table
+  pub left-is : after .1 .1 .0 .now ≡ left
   pub promised : read-reads.Post lifetimes given answer after
 
--- edit(table, n, line, text)
-pub record EditCall (table : List ℤ) (n line : ℕ) (text : List ℕ) (answer : Answer) (left : List ℤ) : Type 0 where
+-- edit(table, n, line, text, revision)
+pub record EditCall (table : List ℤ) (n line : ℕ) (text : List ℕ) (rev : Revision) (answer : Answer) (left : List ℤ) : Type 0 where
   pub lifetimes : Lfts 2
   pub given : Dens lifetimes edit-kinds.ps
   pub after : AtExit (endedOf 2 edit-kinds.ps edit-kinds.r) lifetimes
@@ -36,6 +38,7 @@ pub record EditCall (table : List ℤ) (n line : ℕ) (text : List ℕ) (answer 
   pub n-is : given .1 .0 ≡ n
   pub line-is : given .1 .1 .0 ≡ line
   pub text-is : given .1 .1 .1 .0 .now ≡ text
+  pub revision-is : given .1 .1 .1 .1 .0 ≡ rev
   pub left-is : after .0 .now ≡ left
   pub promised : edit-reads.Post lifetimes given answer after
 

@@ -9,6 +9,7 @@ use Rattle.runs.specs.Machine.{Verdict, accepted, refused}
 use Rattle.rules.specs.declared.Refusal.{Refusal}
 use Rattle.rules.specs.declared.Answer.{Answer}
 use Rattle.rules.specs.declared.Answer.the-variants.{Done, Refused}
+use Rattle.rules.specs.declared.Revision.{Revision}
 use Rattle.rules.specs.Numbers.{maxLines}
 use Rattle.rules.specs.Lines.{linesOf}
 use Rattle.rules.specs.Rows.{rowWidth, tableNumbers}
@@ -25,10 +26,10 @@ leftFrom t n (accepted rs) = putAt t (rowWidth * n) (tableNumbers rs)
 leftFrom t n (refused e i) = []
 
 -- all lines read, their rows in a block of our own
-abbrev pub Block : List ℕ → List ℤ → Answer → List ℤ → Type 0
-Block s t (Done n) t′ = (n ≤ maxLines) × (t′ ≡ leftFrom t 0 (runOf (linesOf s)))
-Block s t (Refused e i) t′ = Unit {0}
+abbrev pub Block : Revision → List ℕ → List ℤ → Answer → List ℤ → Type 0
+Block rev s t (Done n) t′ = (n ≤ maxLines) × (t′ ≡ leftFrom t 0 (runOf rev (linesOf s)))
+Block rev s t (Refused e i) t′ = Unit {0}
 
-pub record LinesRead (s : List ℕ) (t : List ℤ) (r : Answer) (t′ : List ℤ) : Type 0 where
-  pub answer : r ≡ toldFrom 0 (runOf (linesOf s))
-  pub block : Block s t r t′
+pub record LinesRead (rev : Revision) (s : List ℕ) (t : List ℤ) (r : Answer) (t′ : List ℤ) : Type 0 where
+  pub answer : r ≡ toldFrom 0 (runOf rev (linesOf s))
+  pub block : Block rev s t r t′

@@ -14,13 +14,14 @@ use rules::MAX_FILE;
 use rules::NO_ROOM;
 use rules::Next;
 use rules::ROW_WIDTH;
+use rules::Revision;
 use rules::State;
 use rules::TABLE_ROOM;
 
 // The file's lines one after another, each read and taken, and its row put into the block.
-fn read_lines(file: &[u8], rows: &mut [i32]) -> Answer
+fn read_lines(file: &[u8], revision: Revision, rows: &mut [i32]) -> Answer
     requires { ⌜ tableRoom ≤ length (now rows) ⌝ }
-    ensures { λ r. ⌜ LinesRead (now (file .entry)) (now (rows .entry)) r (now (rows .exit)) ⌝ }
+    ensures { λ r. ⌜ LinesRead revision (now (file .entry)) (now (rows .entry)) r (now (rows .exit)) ⌝ }
 {
     let mut state = State::new();
     let mut n = 0;
@@ -28,7 +29,7 @@ fn read_lines(file: &[u8], rows: &mut [i32]) -> Answer
     while at < file.len() {
         let end = line::find_lf(file, at);
         let ended = end < file.len();
-        let answer = line::answer(n + 1, &file[at..end], ended);
+        let answer = line::answer(n + 1, &file[at..end], ended, revision);
         let refusal = answer.refusal;
         if refusal.number != 0 {
             return Answer::Refused(refusal, n + 1);
@@ -52,16 +53,16 @@ fn read_lines(file: &[u8], rows: &mut [i32]) -> Answer
     Answer::Refused(ENDS_TOO_SOON, n + 1)
 }
 
-/// A file's bytes into lent numbers: the number of lines, or the refusal and its line. On success the rows stand first, and all
-/// beyond them is as it was; a refused file changes nothing.
-pub fn read(file: &[u8], table: &mut [i32]) -> Answer
-    ensures { λ r. ⌜ (said r ≡ said (readAnswer (now (file .entry)) (now (table .entry)))) × (now (table .exit) ≡ readLeaves (now (file .entry)) (now (table .entry))) ⌝ }
+/// A file's bytes by a revision into lent numbers: the number of lines, or the refusal and its line. On success the rows stand
+/// first, and all beyond them is as it was; a refused file changes nothing.
+pub fn read(file: &[u8], revision: Revision, table: &mut [i32]) -> Answer
+    ensures { λ r. ⌜ (said r ≡ said (readAnswer revision (now (file .entry)) (now (table .entry)))) × (now (table .exit) ≡ readLeaves revision (now (file .entry)) (now (table .entry))) ⌝ }
 {
     if MAX_FILE < file.len() {
         return Answer::Refused(FILE_TOO_LONG, 0);
     }
     let mut block = [0i32; TABLE_ROOM];
-    match read_lines(file, &mut block) {
+    match read_lines(file, revision, &mut block) {
         Answer::Refused(refusal, line) => {
             return Answer::Refused(refusal, line);
         }

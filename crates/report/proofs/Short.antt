@@ -18,6 +18,7 @@ use Rattle.rules.specs.declared.Hole.{Hole}
 use Rattle.rules.specs.declared.HoleAnswer.{HoleAnswer}
 use Rattle.rules.specs.declared.DiameterAnswer.{DiameterAnswer}
 use Rattle.rules.specs.declared.DiameterAnswer.the-variants as D
+use Rattle.rules.specs.declared.Revision.{Revision}
 use Rattle.rules.specs.Numbers.{maxNumber, maxTool, maxLines}
 use Rattle.rules.specs.Kinds as Kinds
 use Rattle.rules.specs.State.{metricUnit, start}
@@ -121,10 +122,10 @@ text-short rs ok few =
       count-short (holeCount start rs),
     )
 
-pub printed-short : (bs : List ℕ) → length (printed bs) ≤ textRoom
+pub printed-short : (rev : Revision) (bs : List ℕ) → length (printed rev bs) ≤ textRoom
 unfolding printed
-printed-short bs = by (fileOf bs) refl
+printed-short rev bs = by (fileOf rev bs) refl
   where
-    by : (v : Verdict Rows Refusal) → fileOf bs ≡ v → length (onVerdict v refusedText holesText) ≤ textRoom
-    by (accepted rs) e = text-short rs (file-ok bs rs e) (file-few bs rs e)
+    by : (v : Verdict Rows Refusal) → fileOf rev bs ≡ v → length (onVerdict v refusedText holesText) ≤ textRoom
+    by (accepted rs) e = text-short rs (file-ok rev bs rs e) (file-few rev bs rs e)
     by (refused e i) _ = omega (arith, refused-short e i)

@@ -7,6 +7,7 @@ use lib.Dec.{leb}
 use lib.IntN.{ℤ}
 use lib.ListN.{length}
 use Rattle.lists.specs.Put.{putAt}
+use Rattle.rules.specs.declared.Revision.{Revision}
 use Rattle.rules.specs.Rows.{tableRoom}
 use Rattle.rules.specs.Reading.{readLeaves}
 use Rattle.rules.specs.Printing.{printed}
@@ -19,8 +20,8 @@ textRoom = 98304
 unfoldable pub blocksFit : List ℤ → List ℕ → Bool
 blocksFit table text = leb tableRoom (length table) && leb textRoom (length text)
 
-pub record Reports (file : List ℕ) (table : List ℤ) (text : List ℕ) (r : ℕ) (table′ : List ℤ) (text′ : List ℕ) : Type 0 where
-  pub bytes : text′ ≡ cond (blocksFit table text) (putAt text 0 (printed file)) text
-  pub count : r ≡ cond (blocksFit table text) (length (printed file)) 0
-  pub numbers : table′ ≡ cond (blocksFit table text) (readLeaves file table) table
+pub record Reports (rev : Revision) (file : List ℕ) (table : List ℤ) (text : List ℕ) (r : ℕ) (table′ : List ℤ) (text′ : List ℕ) : Type 0 where
+  pub bytes : text′ ≡ cond (blocksFit table text) (putAt text 0 (printed rev file)) text
+  pub count : r ≡ cond (blocksFit table text) (length (printed rev file)) 0
+  pub numbers : table′ ≡ cond (blocksFit table text) (readLeaves rev file table) table
   pub inside : r ≤ length text

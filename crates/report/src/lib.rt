@@ -13,6 +13,7 @@ use crate::parts::put_tools;
 use crate::parts::put_unit;
 use rules::Answer;
 use rules::Looked;
+use rules::Revision;
 use rules::State;
 use rules::TABLE_ROOM;
 
@@ -44,10 +45,10 @@ fn put_rows(text: &mut [u8], table: &[i32], n: usize) -> usize
     }
 }
 
-/// What `holes` prints for a file: how many bytes. The table is the one that reading fills. 0, and everything as it was, where the
-/// table has no room for the longest file or the text under 98,304 bytes.
-pub fn holes(file: &[u8], table: &mut [i32], text: &mut [u8]) -> usize
-    ensures { λ r. ⌜ Reports (now (file .entry)) (now (table .entry)) (now (text .entry)) r (now (table .exit)) (now (text .exit)) ⌝ }
+/// What `holes` prints for a file, read by a revision: how many bytes. The table is the one that reading fills. 0, and everything
+/// as it was, where the table has no room for the longest file or the text under 98,304 bytes.
+pub fn holes(file: &[u8], revision: Revision, table: &mut [i32], text: &mut [u8]) -> usize
+    ensures { λ r. ⌜ Reports revision (now (file .entry)) (now (table .entry)) (now (text .entry)) r (now (table .exit)) (now (text .exit)) ⌝ }
 {
     if table.len() < TABLE_ROOM {
         return 0;
@@ -55,7 +56,7 @@ pub fn holes(file: &[u8], table: &mut [i32], text: &mut [u8]) -> usize
     if text.len() < TEXT_ROOM {
         return 0;
     }
-    match reader::read(file, table) {
+    match reader::read(file, revision, table) {
         Answer::Refused(refusal, line) => {
             let fields = [refusal.number as u64, line as u64];
             print::put_numbers_line(text, 0, b"refused", &fields)

@@ -16,6 +16,7 @@ use Rattle.runs.proofs.Append.{Reads, reads-run}
 use Rattle.rules.specs.declared.Command.{Command}
 use Rattle.rules.specs.declared.State.{State}
 use Rattle.rules.specs.declared.Next.the-variants.{To}
+use Rattle.rules.specs.declared.Revision.{Revision}
 use Rattle.rules.specs.Refusals.{wrongPhase, endsTooSoon}
 use Rattle.rules.specs.Numbers.{maxFile, maxLines}
 use Rattle.rules.specs.Lines.{LF, Line, linesOf}
@@ -42,19 +43,19 @@ commented-length [] h = omega arith
 commented-length (r ∷ rs) h =
     omega (arith, length-append (spelt (r .command)) (LF ∷ textWithComments rs), spelt-fits (r .command) (h .0) .short, commented-length rs (h .2))
 
-lines-back : {p : State} (rs : Rows) (i : ℕ) → RowsOk rs → Follows (StepBy taken) p i rs → i + length rs ≤ maxLines
-    → Reads commandIn taken p (linesOf (textWithComments rs)) i rs
+lines-back : (rev : Revision) {p : State} (rs : Rows) (i : ℕ) → RowsOk rs → Follows (StepBy taken) p i rs → i + length rs ≤ maxLines
+    → Reads (commandIn rev) taken p (linesOf (textWithComments rs)) i rs
 unfolding textWithComments linesOf
-lines-back [] i h f n = nil
-lines-back {p} (r ∷ rs) i h f n =
-    subst (λ (ls : List Line). Reads commandIn taken p ls i (r ∷ rs)) (sym (spelt-line (r .command) (h .0) (textWithComments rs)))
-    (link (spelt-reads (i + 1) (r .command) (omega arith) (h .0)) (follows-head f) (lines-back rs (i + 1) (h .2) (follows-tail f) (omega arith)))
+lines-back rev [] i h f n = nil
+lines-back rev {p} (r ∷ rs) i h f n =
+    subst (λ (ls : List Line). Reads (commandIn rev) taken p ls i (r ∷ rs)) (sym (spelt-line (r .command) (h .0) (textWithComments rs)))
+    (link (spelt-reads rev (i + 1) (r .command) (omega arith) (h .0)) (follows-head f) (lines-back rev rs (i + 1) (h .2) (follows-tail f) (omega arith)))
 
-pub commented-file-back : (rs : Rows) → GoodRows rs → fileOf (textWithComments rs) ≡ accepted rs
+pub commented-file-back : (rev : Revision) (rs : Rows) → GoodRows rs → fileOf rev (textWithComments rs) ≡ accepted rs
 unfolding fileOf runOf
-commented-file-back rs g =
+commented-file-back rev rs g =
     rw (le-leb (length (textWithComments rs)) maxFile (omega (arith, commented-length rs (g .in-range), g .count)))
-    (reads-run commandIn taken hasEnded endsTooSoon (lines-back rs 0 (g .in-range) (g .follows) (omega (arith, g .count))) (g .ends))
+    (reads-run (commandIn rev) taken hasEnded endsTooSoon (lines-back rev rs 0 (g .in-range) (g .follows) (omega (arith, g .count))) (g .ends))
 
 -- ---- without comments
 
@@ -119,8 +120,8 @@ text-kept (r ∷ rs) =
 pub text-length : (rs : Rows) → RowsOk rs → length (textOfRows rs) ≤ longestLine * length rs
 text-length rs h = omega (arith, ap length (text-kept rs), commented-length (withoutComments rs) (kept-ok rs h), kept-count rs)
 
-pub file-back : (rs : Rows) → GoodRows rs → fileOf (textOfRows rs) ≡ accepted (withoutComments rs)
-file-back rs g = ap fileOf (text-kept rs) ∙ commented-file-back (withoutComments rs) (kept-good rs g)
+pub file-back : (rev : Revision) (rs : Rows) → GoodRows rs → fileOf rev (textOfRows rs) ≡ accepted (withoutComments rs)
+file-back rev rs g = ap (fileOf rev) (text-kept rs) ∙ commented-file-back rev (withoutComments rs) (kept-good rs g)
 
 -- written again it has the same bytes
 pub same-bytes : (rs : Rows) → textOfRows (withoutComments rs) ≡ textOfRows rs

@@ -17,6 +17,7 @@ use Rattle.points.specs.declared.Point.{Point}
 use Rattle.points.specs.declared.Arc.{Arc}
 use Rattle.rules.specs.declared.Command.{Command}
 use Rattle.rules.specs.declared.Command.the-variants.{Comment, M48, Metric, Inch, Declare, Percent, G05, G00, Select, Hit, M15, M16, G01, G02, G03, M30}
+use Rattle.rules.specs.declared.Revision.{Revision}
 use Rattle.rules.specs.Numbers.{maxLine, maxLines, maxNumber, maxTool, isDigit, digitsOf, Decimal, got, onNumber, unsignedOf, millionths, isCoordinate, isSize}
 use Rattle.rules.specs.Lines.{LF, CR, linesOf, isPrintable}
 use Rattle.rules.specs.Kinds.{isComment}
@@ -24,6 +25,7 @@ use Rattle.rules.specs.Commands.{Form, g00, hit, g01, g02, g03, Formed, no-form
 use Rattle.rules.specs.Reading.{answerIn, commandIn}
 use Rattle.rules.specs.Writing.{lastDigits, widthOf, placesOf, fractionText, numberText, coordinateText, toolText, pointText, arcText, spelt, lineText, longestLine}
 use Rattle.rules.specs.Ranges.{PointOk, ArcOk, CommandOk}
+use Rattle.rules.proofs.Revisions.{two-digits}
 use Rattle.laws.proofs.Digits.{NoDigit, NoPoint}
 use Rattle.laws.proofs.Lines.{printable-without, no-cr, text-plain, endedLine, lf-line}
 use Rattle.round.proofs.Numbers.{tool-back, width-is, places-is, written, written-millionths, number-back, writtenCoordinate, coordinate-back, written-coordinate, written-is, written-size, tool-in-range}
@@ -157,53 +159,54 @@ arc-back a form command m h =
       written-millionths (a .radius) false,
     )
 
-declare-back : (t d : ℕ) → CommandOk (Declare t d) → commandOf (spelt (Declare t d)) ≡ says (Declare t d)
+declare-back : (rev : Revision) (t d : ℕ) → CommandOk (Declare t d) → commandOf rev (spelt (Declare t d)) ≡ says (Declare t d)
 unfolding commandOf formOf spelt toolForm startsWith isDigit meaningOf inRange
-declare-back t d h =
+declare-back rev t d h =
     rw (
       tool-back t (bytes "C" ++ numberText d) (h .0 .high) refl,
+      two-digits rev,
       number-end d (h .1 .high),
       tool-in-range t (h .0 .low) (h .0 .high),
       written-size d (h .1 .low) (h .1 .high),
       written-millionths d false,
     )
 
-select-back : (t : ℕ) → CommandOk (Select t) → commandOf (spelt (Select t)) ≡ says (Select t)
+select-back : (rev : Revision) (t : ℕ) → CommandOk (Select t) → commandOf rev (spelt (Select t)) ≡ says (Select t)
 unfolding commandOf formOf spelt toolForm startsWith meaningOf inRange
-select-back t h = rw (tool-end t (h .high), tool-in-range t (h .low) (h .high))
+select-back rev t h = rw (tool-end t (h .high), tool-in-range t (h .low) (h .high))
 
-command-back : (c : Command) → CommandOk c → commandOf (spelt c) ≡ says c
+command-back : (rev : Revision) (c : Command) → CommandOk c → commandOf rev (spelt c) ≡ says c
 unfolding commandOf formOf spelt startsWith meaningOf noSemicolon commentForm pointText
-command-back Comment h = refl
-command-back M48 h = refl
-command-back Metric h = refl
-command-back Inch h = refl
-command-back (Declare t d) h = declare-back t d h
-command-back Percent h = refl
-command-back G05 h = refl
-command-back (G00 p) h = point-back p g00 G00 (λ x y. refl) h
-command-back (Select t) h = select-back t h
-command-back (Hit p) h = point-back p hit Hit (λ x y. refl) h
-command-back M15 h = refl
-command-back M16 h = refl
-command-back (G01 p) h = point-back p g01 G01 (λ x y. refl) h
-command-back (G02 a) h = arc-back a g02 G02 (λ x y r. refl) h
-command-back (G03 a) h = arc-back a g03 G03 (λ x y r. refl) h
-command-back M30 h = refl
+command-back rev Comment h = refl
+command-back rev M48 h = refl
+command-back rev Metric h = refl
+command-back rev Inch h = refl
+command-back rev (Declare t d) h = declare-back rev t d h
+command-back rev Percent h = refl
+command-back rev G05 h = refl
+command-back rev (G00 p) h = point-back p g00 G00 (λ x y. refl) h
+command-back rev (Select t) h = select-back rev t h
+command-back rev (Hit p) h = point-back p hit Hit (λ x y. refl) h
+command-back rev M15 h = refl
+command-back rev M16 h = refl
+command-back rev (G01 p) h = point-back p g01 G01 (λ x y. refl) h
+command-back rev (G02 a) h = arc-back a g02 G02 (λ x y r. refl) h
+command-back rev (G03 a) h = arc-back a g03 G03 (λ x y r. refl) h
+command-back rev M30 h = refl
 
 -- ---- a command's line
 
-pub spelt-says : (c : Command) → CommandOk c → lineOf (spelt c) ≡ says c
+pub spelt-says : (rev : Revision) (c : Command) → CommandOk c → lineOf rev (spelt c) ≡ says c
 unfolding lineOf
-spelt-says c h =
+spelt-says rev c h =
     let f = spelt-fits c h in
-    rw (le-leb (length (spelt c)) maxLine (omega (arith, f .short)), f .printable, command-back c h)
+    rw (le-leb (length (spelt c)) maxLine (omega (arith, f .short)), f .printable, command-back rev c h)
 
 -- and as a line of a file
-pub spelt-reads : (i : ℕ) (c : Command) → i ≤ maxLines → CommandOk c → commandIn i (endedLine (spelt c)) ≡ yields c
+pub spelt-reads : (rev : Revision) (i : ℕ) (c : Command) → i ≤ maxLines → CommandOk c → commandIn rev i (endedLine (spelt c)) ≡ yields c
 unfolding commandIn answerIn
-spelt-reads i c n h =
-    rw (le-leb i maxLines n, text-plain (spelt c) (no-cr (spelt c) (printable-without CR (omega arith) (spelt c) (spelt-fits c h .printable))), spelt-says c h)
+spelt-reads rev i c n h =
+    rw (le-leb i maxLines n, text-plain (spelt c) (no-cr (spelt c) (printable-without CR (omega arith) (spelt c) (spelt-fits c h .printable))), spelt-says rev c h)
 
 pub spelt-line : (c : Command) → CommandOk c → (rest : List ℕ) → linesOf (spelt c ++ (LF ∷ rest)) ≡ endedLine (spelt c) ∷ linesOf rest
 spelt-line c h rest = lf-line (spelt c) rest (printable-without LF (omega arith) (spelt c) (spelt-fits c h .printable))

@@ -1,3 +1,4 @@
 pub mod Same
 pub mod Said
 pub mod Tests
+pub mod Revisions

@@ -4,6 +4,7 @@ use Prim.Native.Nat.{ℕ, zero, suc, _*_}
 use lib.IntN.{ℤ, pos}
 use Rattle.lists.specs.Words.{bytes}
 use Rattle.runs.specs.Machine.{onVerdict}
+use Rattle.rules.specs.declared.Revision.the-variants.{Rev2021}
 use Rattle.rules.specs.declared.Answer.{Answer}
 use Rattle.rules.specs.declared.Answer.the-variants.{Done, Refused}
 use Rattle.rules.specs.Refusals.{refusal}
@@ -31,11 +32,11 @@ zeros (suc n) = pos 0 ∷ zeros n
 
 -- the bench file read into room for its fifteen rows
 unfoldable pub benchTable : List ℤ
-benchTable = readLeaves benchFile (zeros (rowWidth * 15))
+benchTable = readLeaves Rev2021 benchFile (zeros (rowWidth * 15))
 
 -- its rows
 unfoldable pub benchRows : Rows
-benchRows = onVerdict (fileOf benchFile) (λ e i. []) (λ rs. rs)
+benchRows = onVerdict (fileOf Rev2021 benchFile) (λ e i. []) (λ rs. rs)
 
 -- an edit of the bench file: line, new text, answer
 pub record Case : Type 0 where
@@ -70,4 +71,4 @@ expected (c ∷ cs) = c .answer ∷ expected cs
 
 unfoldable pub answered : List Case → List Answer
 answered [] = []
-answered (c ∷ cs) = editAnswer benchTable 15 (c .line) (c .text) ∷ answered cs
+answered (c ∷ cs) = editAnswer Rev2021 benchTable 15 (c .line) (c .text) ∷ answered cs

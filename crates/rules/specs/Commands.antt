@@ -1,5 +1,5 @@
 -- Document 01, "Command kinds": which line has which form, and which command a form means. The form of the whole line
--- is decided before any range.
+-- is decided before any range. By document 02's #102 the form of a declaration depends on the revision, and no other does.
 use mathlib.Core.Bool.{Bool, true, false, _&&_, not, cond}
 use mathlib.Core.List.{List, [], _∷_}
 use Prim.Native.Nat.{ℕ}
@@ -10,6 +10,8 @@ use Rattle.lists.specs.Words.{bytes, startsWith}
 use Rattle.rules.specs.declared.Command.{Command}
 use Rattle.rules.specs.declared.Command.the-variants.{Comment, M48, Metric, Inch, Declare, Percent, G05, G00, Select, Hit, M15, M16, G01, G02, G03, M30}
 use Rattle.points.specs.declared.Point.{Point}
+use Rattle.rules.specs.declared.Revision.{Revision}
+use Rattle.rules.specs.declared.Revision.the-variants.{Rev2019, Rev2021}
 use Rattle.rules.specs.declared.Refusal.{Refusal}
 use Rattle.rules.specs.declared.LineAnswer.{LineAnswer}
 use Rattle.rules.specs.Refusals.{noRefusal, lineTooLong, forbiddenByte, noSuchForm, outOfRange}
@@ -67,28 +69,35 @@ arcForm l f =
     pointForm l
     (λ x y rest. cond (startsWith rest (bytes "A")) (onNumber (unsignedOf (drop 1 rest)) no-form (λ r rest′. atEnd rest′ (f x y r))) no-form)
 
--- a declaration's tool number has two digits, a selection's one or two
-abbrev pub declaredDigits : ℕ → Bool
-declaredDigits k = eqb k 2
+-- how many digits a tool number has: a declaration's two, by the 2019 revision one or two; a selection's one or two
+abbrev pub fewestDeclared : Revision → ℕ
+fewestDeclared Rev2019 = 1
+fewestDeclared Rev2021 = 2
 
-abbrev pub selectedDigits : ℕ → Bool
-selectedDigits k = leb 1 k && leb k 2
+abbrev pub fewestSelected : ℕ
+fewestSelected = 1
 
-abbrev pub declareForm : DigitRun → Formed
-declareForm t =
-    cond (declaredDigits (t .count)) (onNumber (unsignedOf (drop 1 (t .rest))) no-form (λ d rest. atEnd rest (declare (t .value) d))) no-form
+abbrev pub mostDigits : ℕ
+mostDigits = 2
+
+abbrev pub toolDigits : ℕ → ℕ → Bool
+toolDigits fewest k = leb fewest k && leb k mostDigits
+
+abbrev pub declareForm : Revision → DigitRun → Formed
+declareForm rev t =
+    cond (toolDigits (fewestDeclared rev) (t .count)) (onNumber (unsignedOf (drop 1 (t .rest))) no-form (λ d rest. atEnd rest (declare (t .value) d))) no-form
 
 abbrev pub selectForm : DigitRun → Formed
-selectForm t = cond (selectedDigits (t .count)) (atEnd (t .rest) (select (t .value))) no-form
+selectForm t = cond (toolDigits fewestSelected (t .count)) (atEnd (t .rest) (select (t .value))) no-form
 
-abbrev pub afterTool : DigitRun → Formed
-afterTool t = cond (startsWith (t .rest) (bytes "C")) (declareForm t) (selectForm t)
+abbrev pub afterTool : Revision → DigitRun → Formed
+afterTool rev t = cond (startsWith (t .rest) (bytes "C")) (declareForm rev t) (selectForm t)
 
-unfoldable pub toolForm : List ℕ → Formed
-toolForm l = afterTool (digitsOf l)
+unfoldable pub toolForm : Revision → List ℕ → Formed
+toolForm rev l = afterTool rev (digitsOf l)
 
-unfoldable pub formOf : List ℕ → Formed
-formOf l =
+unfoldable pub formOf : Revision → List ℕ → Formed
+formOf rev l =
     cond (startsWith l (bytes ";")) (commentForm (drop 1 l))
     (cond (startsWith l (bytes "M48")) (atEnd (drop 3 l) m48)
     (cond (startsWith l (bytes "METRIC")) (atEnd (drop 6 l) metric)
@@ -96,7 +105,7 @@ formOf l =
     (cond (startsWith l (bytes "%")) (atEnd (drop 1 l) percent)
     (cond (startsWith l (bytes "G05")) (atEnd (drop 3 l) g05)
     (cond (startsWith l (bytes "G00")) (pointForm (drop 3 l) (λ x y rest. atEnd rest (g00 x y)))
-    (cond (startsWith l (bytes "T")) (toolForm (drop 1 l))
+    (cond (startsWith l (bytes "T")) (toolForm rev (drop 1 l))
     (cond (startsWith l (bytes "X")) (pointForm l (λ x y rest. atEnd rest (hit x y)))
     (cond (startsWith l (bytes "M15")) (atEnd (drop 3 l) m15)
     (cond (startsWith l (bytes "M16")) (atEnd (drop 3 l) m16)
@@ -143,10 +152,10 @@ abbrev pub onForm : Formed → LineAnswer
 onForm (is f) = meaningOf f
 onForm no-form = saysNo noSuchForm
 
-unfoldable pub commandOf : List ℕ → LineAnswer
-commandOf l = onForm (formOf l)
+unfoldable pub commandOf : Revision → List ℕ → LineAnswer
+commandOf rev l = onForm (formOf rev l)
 
 -- ---- a line's bytes without its end: 6, 4, 5, 7 in this order
 
-unfoldable pub lineOf : List ℕ → LineAnswer
-lineOf l = cond (leb (length l) maxLine) (cond (isPrintable l) (commandOf l) (saysNo forbiddenByte)) (saysNo lineTooLong)
+unfoldable pub lineOf : Revision → List ℕ → LineAnswer
+lineOf rev l = cond (leb (length l) maxLine) (cond (isPrintable l) (commandOf rev l) (saysNo forbiddenByte)) (saysNo lineTooLong)

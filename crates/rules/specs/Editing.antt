@@ -1,4 +1,5 @@
--- Document 01, "The answers", edit: line k of a table of n rows gets the bytes l. For every table, good or not.
+-- Document 01, "The answers", edit: line k of a table of n rows gets the bytes l. For every table, good or not. The caller chooses the
+-- revision by which the new line is read; a table has none.
 use mathlib.Core.Bool.{Bool, true, not, _&&_, cond}
 use mathlib.Core.List.{List, [], _∷_}
 use Prim.Native.Nat.{ℕ, _-_, _*_}
@@ -10,6 +11,7 @@ use Rattle.runs.specs.Machine.{onOut, Verdict, accepted, refused, Entry, holds,
 use Rattle.rules.specs.declared.Command.{Command}
 use Rattle.rules.specs.declared.State.{State}
 use Rattle.rules.specs.declared.Refusal.{Refusal}
+use Rattle.rules.specs.declared.Revision.{Revision}
 use Rattle.rules.specs.declared.Before.{Before}
 use Rattle.rules.specs.declared.Before.the-variants.{From, Bad}
 use Rattle.rules.specs.declared.Answer.{Answer}
@@ -57,16 +59,16 @@ unfoldable pub editFrom : List (Entry Command State) → ℕ → State → State
 editFrom es k p o c = rerunFrom p (holds (record { command = c; state = o }) ∷ drop k es) (k - 1)
 
 -- the row before, the old row, then the new line from 6 on
-unfoldable pub editRows : List (Entry Command State) → ℕ → List ℕ → Verdict (Span Command State) Refusal
-editRows es k l =
+unfoldable pub editRows : Revision → List (Entry Command State) → ℕ → List ℕ → Verdict (Span Command State) Refusal
+editRows rev es k l =
     onBefore (beforeLine k (entryAt es (k - 1))) (refused badTable (k - 1))
     (λ p. onBefore (stateIn (entryAt es k)) (refused badTable k)
-    (λ o. onOut (sayOut (lineOf l)) (λ e. refused e k) (λ c. editFrom es k p o c)))
+    (λ o. onOut (sayOut (lineOf rev l)) (λ e. refused e k) (λ c. editFrom es k p o c)))
 
-unfoldable pub editOf : List ℤ → ℕ → ℕ → List ℕ → Verdict (Span Command State) Refusal
-editOf t n k l =
+unfoldable pub editOf : Revision → List ℤ → ℕ → ℕ → List ℕ → Verdict (Span Command State) Refusal
+editOf rev t n k l =
     cond (sizesFit t n)
-    (cond (isLine n k) (cond (noLineEnd l) (editRows (entriesOf n t) k l) (refused holdsLineEnd 0)) (refused noSuchLine 0))
+    (cond (isLine n k) (cond (noLineEnd l) (editRows rev (entriesOf n t) k l) (refused holdsLineEnd 0)) (refused noSuchLine 0))
     (refused badTable 0)
 
 -- the meeting line, or the refusal and its line
@@ -74,13 +76,13 @@ abbrev pub meetingOf : Verdict (Span Command State) Refusal → Answer
 meetingOf (accepted s) = Done (s .meeting)
 meetingOf (refused e i) = Refused e i
 
-unfoldable pub editAnswer : List ℤ → ℕ → ℕ → List ℕ → Answer
-editAnswer t n k l = meetingOf (editOf t n k l)
+unfoldable pub editAnswer : Revision → List ℤ → ℕ → ℕ → List ℕ → Answer
+editAnswer rev t n k l = meetingOf (editOf rev t n k l)
 
 -- the lent numbers afterwards: the rows of the span new, all else as it was; on refusal as they were
 abbrev pub leavesOf : List ℤ → ℕ → Verdict (Span Command State) Refusal → List ℤ
 leavesOf t k (accepted s) = putAt t (rowWidth * (k - 1)) (tableNumbers (s .rows))
 leavesOf t k (refused e i) = t
 
-unfoldable pub editLeaves : List ℤ → ℕ → ℕ → List ℕ → List ℤ
-editLeaves t n k l = leavesOf t k (editOf t n k l)
+unfoldable pub editLeaves : Revision → List ℤ → ℕ → ℕ → List ℕ → List ℤ
+editLeaves rev t n k l = leavesOf t k (editOf rev t n k l)

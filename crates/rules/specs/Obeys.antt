@@ -11,6 +11,7 @@ use Rattle.points.specs.declared.Arc.{Arc}
 use Rattle.rules.specs.declared.Command.{Command}
 use Rattle.rules.specs.declared.Command.the-variants.{Comment, M48, Metric, Inch, Declare, Percent, G05, G00, Select, Hit, M15, M16, G01, G02, G03, M30}
 use Rattle.rules.specs.declared.State.{State}
+use Rattle.rules.specs.declared.Revision.{Revision}
 use Rattle.rules.specs.Numbers.{maxFile, maxLines}
 use Rattle.tools.specs.Set.{has, insert}
 use Rattle.points.specs.Points.{origin, squareOfDistance}
@@ -53,14 +54,14 @@ pub data Takes : State → Command → State → Type 0 where
   m30 : {s : State} → Free s → Takes s M30 (inPhase over s)
 
 -- a reading of a file, and the rows of its table: the bytes spell the rows' commands, and each state follows
-pub record ReadingOf (bs : List ℕ) (rs : Rows) : Type 0 where
+pub record ReadingOf (rev : Revision) (bs : List ℕ) (rs : Rows) : Type 0 where
   pub file-size : length bs ≤ maxFile
   pub line-count : length rs ≤ maxLines
-  pub spelling : SpellsFile bs (commandsOf rs)
+  pub spelling : SpellsFile rev bs (commandsOf rs)
   pub follows : Follows Takes start 0 rs
   pub ends : lastOf start rs .phase ≡ over
 
--- a file obeys XNC 2021.11, as document 01 condenses it
-pub record Obeys (bs : List ℕ) : Type 0 where
+-- a file obeys XNC by a revision: 2021.11 as document 01 condenses it, 2019 with document 02's #102
+pub record Obeys (rev : Revision) (bs : List ℕ) : Type 0 where
   pub rows : Rows
-  pub reading : ReadingOf bs rows
+  pub reading : ReadingOf rev bs rows

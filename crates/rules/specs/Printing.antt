@@ -8,6 +8,7 @@ use Rattle.lists.specs.Words.{bytes}
 use Rattle.runs.specs.Machine.{onVerdict, allHold, lastOf}
 use Rattle.rules.specs.declared.State.{State}
 use Rattle.rules.specs.declared.Refusal.{Refusal}
+use Rattle.rules.specs.declared.Revision.{Revision}
 use Rattle.rules.specs.declared.Hole.{Hole}
 use Rattle.rules.specs.declared.HoleAnswer.{HoleAnswer}
 use Rattle.rules.specs.declared.HoleAnswer.the-variants.{Makes, Nothing, Refused}
@@ -92,5 +93,5 @@ holesText rs =
 unfoldable pub refusedText : Refusal → ℕ → List ℕ
 refusedText e i = printedLine (bytes "refused") (decimal (e .number) ∷ decimal i ∷ [])
 
-unfoldable pub printed : List ℕ → List ℕ
-printed bs = onVerdict (fileOf bs) refusedText holesText
+unfoldable pub printed : Revision → List ℕ → List ℕ
+printed rev bs = onVerdict (fileOf rev bs) refusedText holesText

@@ -9,9 +9,10 @@ use lib.IntN.{ℤ}
 use Rattle.lists.specs.Words.{bytes}
 use Rattle.rules.specs.declared.Command.{Command}
 use Rattle.rules.specs.declared.Command.the-variants.{Comment, M48, Metric, Inch, Declare, Percent, G05, G00, Select, Hit, M15, M16, G01, G02, G03, M30}
+use Rattle.rules.specs.declared.Revision.{Revision}
 use Rattle.rules.specs.Numbers.{maxLine, maxNumber, maxTool, maxPlaces, Decimal, millionths, withSign}
 use Rattle.rules.specs.Lines.{LF, CR, NoLF}
-use Rattle.rules.specs.Commands.{Form, comment, m48, metric, inch, declare, percent, g05, g00, select, hit, m15, m16, g01, g02, g03, m30}
+use Rattle.rules.specs.Commands.{fewestDeclared, fewestSelected, mostDigits, Form, comment, m48, metric, inch, declare, percent, g05, g00, select, hit, m15, m16, g01, g02, g03, m30}
 
 -- ---- numbers
 
@@ -45,23 +46,24 @@ pub data NoSemicolon : List ℕ → Type 0 where
   nothing : NoSemicolon []
   other : {b : ℕ} {l : List ℕ} → (b ≡ code ";" → ⊥) → NoSemicolon l → NoSemicolon (b ∷ l)
 
-pub data Spells : List ℕ → Form → Type 0 where
-  comment-is : {l : List ℕ} → NoSemicolon l → Spells (bytes ";" ++ l) comment
-  m48-is : Spells (bytes "M48") m48
-  metric-is : Spells (bytes "METRIC") metric
-  inch-is : Spells (bytes "INCH") inch
-  declare-is : {ds b : List ℕ} {t : ℕ} {d : Decimal} → Digits ds 2 t → Unsigned b d → Spells (bytes "T" ++ (ds ++ (bytes "C" ++ b))) (declare t d)
-  percent-is : Spells (bytes "%") percent
-  g05-is : Spells (bytes "G05") g05
-  g00-is : {b : List ℕ} {x y : Decimal} → SpellsPoint b x y → Spells (bytes "G00" ++ b) (g00 x y)
-  select-is : {ds : List ℕ} {k t : ℕ} → Digits ds k t → 1 ≤ k → k ≤ 2 → Spells (bytes "T" ++ ds) (select t)
-  hit-is : {b : List ℕ} {x y : Decimal} → SpellsPoint b x y → Spells b (hit x y)
-  m15-is : Spells (bytes "M15") m15
-  m16-is : Spells (bytes "M16") m16
-  g01-is : {b : List ℕ} {x y : Decimal} → SpellsPoint b x y → Spells (bytes "G01" ++ b) (g01 x y)
-  g02-is : {b : List ℕ} {x y r : Decimal} → SpellsArc b x y r → Spells (bytes "G02" ++ b) (g02 x y r)
-  g03-is : {b : List ℕ} {x y r : Decimal} → SpellsArc b x y r → Spells (bytes "G03" ++ b) (g03 x y r)
-  m30-is : Spells (bytes "M30") m30
+pub data Spells (rev : Revision) : List ℕ → Form → Type 0 where
+  comment-is : {l : List ℕ} → NoSemicolon l → Spells rev (bytes ";" ++ l) comment
+  m48-is : Spells rev (bytes "M48") m48
+  metric-is : Spells rev (bytes "METRIC") metric
+  inch-is : Spells rev (bytes "INCH") inch
+  declare-is : {ds b : List ℕ} {k t : ℕ} {d : Decimal} → Digits ds k t → fewestDeclared rev ≤ k → k ≤ mostDigits → Unsigned b d
+      → Spells rev (bytes "T" ++ (ds ++ (bytes "C" ++ b))) (declare t d)
+  percent-is : Spells rev (bytes "%") percent
+  g05-is : Spells rev (bytes "G05") g05
+  g00-is : {b : List ℕ} {x y : Decimal} → SpellsPoint b x y → Spells rev (bytes "G00" ++ b) (g00 x y)
+  select-is : {ds : List ℕ} {k t : ℕ} → Digits ds k t → fewestSelected ≤ k → k ≤ mostDigits → Spells rev (bytes "T" ++ ds) (select t)
+  hit-is : {b : List ℕ} {x y : Decimal} → SpellsPoint b x y → Spells rev b (hit x y)
+  m15-is : Spells rev (bytes "M15") m15
+  m16-is : Spells rev (bytes "M16") m16
+  g01-is : {b : List ℕ} {x y : Decimal} → SpellsPoint b x y → Spells rev (bytes "G01" ++ b) (g01 x y)
+  g02-is : {b : List ℕ} {x y r : Decimal} → SpellsArc b x y r → Spells rev (bytes "G02" ++ b) (g02 x y r)
+  g03-is : {b : List ℕ} {x y r : Decimal} → SpellsArc b x y r → Spells rev (bytes "G03" ++ b) (g03 x y r)
+  m30-is : Spells rev (bytes "M30") m30
 
 -- ---- ranges
 
@@ -100,16 +102,16 @@ pub data Printable : List ℕ → Type 0 where
   byte : {b : ℕ} {l : List ℕ} → 32 ≤ b → b ≤ 126 → Printable l → Printable (b ∷ l)
 
 -- bytes that spell a command
-pub record SpellsCommand (l : List ℕ) (c : Command) : Type 0 where
+pub record SpellsCommand (rev : Revision) (l : List ℕ) (c : Command) : Type 0 where
   pub form : Form
-  pub spelt : Spells l form
+  pub spelt : Spells rev l form
   pub means : Means form c
 
 -- the same as a line of a file: short enough, and without a forbidden byte
-pub record SpellsLine (l : List ℕ) (c : Command) : Type 0 where
+pub record SpellsLine (rev : Revision) (l : List ℕ) (c : Command) : Type 0 where
   pub short : length l ≤ maxLine
   pub printable : Printable l
-  pub command : SpellsCommand l c
+  pub command : SpellsCommand rev l c
 
 pub data LineEnd : List ℕ → Type 0 where
   lf : LineEnd (LF ∷ [])
@@ -124,6 +126,7 @@ pub record FirstLine (bs text rest : List ℕ) : Type 0 where
   pub no-cr-left : end ≡ LF ∷ [] → (b : List ℕ) → text ≡ b ++ (CR ∷ []) → ⊥
 
 -- each line ended, to the last
-pub data SpellsFile : List ℕ → List Command → Type 0 where
-  empty : SpellsFile [] []
-  line : {l e rest : List ℕ} {c : Command} {cs : List Command} → SpellsLine l c → LineEnd e → SpellsFile rest cs → SpellsFile (l ++ (e ++ rest)) (c ∷ cs)
+pub data SpellsFile (rev : Revision) : List ℕ → List Command → Type 0 where
+  empty : SpellsFile rev [] []
+  line : {l e rest : List ℕ} {c : Command} {cs : List Command} → SpellsLine rev l c → LineEnd e → SpellsFile rev rest cs
+      → SpellsFile rev (l ++ (e ++ rest)) (c ∷ cs)

@@ -64,6 +64,12 @@ pub const HOLDS_LINE_END: Refusal = Refusal { number: 17 };
 
 pub const BAD_TABLE: Refusal = Refusal { number: 18 };
 
+/// The revision of XNC by whose rule a line is read. It decides how a declaration is written, and nothing else.
+pub enum Revision {
+    Rev2019,
+    Rev2021,
+}
+
 /// One kind together with the numbers that kind carries.
 pub enum Command {
     Comment,

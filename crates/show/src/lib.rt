@@ -1,4 +1,6 @@
 // What the programs print and read: lines on standard output, each made by crate print; a file from standard input.
+pub mod arguments;
+
 ghost use lib.ListN.{length};
 ghost use Rattle.show.specs.Got.{Got, GotLine};
 use print::LINE_ROOM;

@@ -9,6 +9,7 @@ use Rattle.rules.specs.declared.Answer.the-variants.{Refused}
 use Rattle.rules.specs.declared.Refusal.{Refusal}
 use Rattle.rules.specs.declared.HoleAnswer.{HoleAnswer}
 use Rattle.rules.specs.declared.HoleAnswer.the-variants as H
+use Rattle.rules.specs.declared.Revision.{Revision}
 use Rattle.rules.specs.Answers.{Said, valueOf, said, holeSaid}
 use Rattle.rules.specs.Reading.{readAnswer}
 use Rattle.rules.specs.Editing.{editAnswer}
@@ -18,11 +19,11 @@ use Rattle.rules.proofs.Said.{hole-said-one}
 use Rattle.answers.proofs.Small as Answers
 use Rattle.xnc.specs.Door.{shift}
 
-pub read-small : (file : List ℕ) (table : List ℤ) {s : Said} → s ≡ said (readAnswer file table) → valueOf s < shift
-read-small file table h = rw h (omega (arith, Answers.read-small file table))
+pub read-small : (rev : Revision) (file : List ℕ) (table : List ℤ) {s : Said} → s ≡ said (readAnswer rev file table) → valueOf s < shift
+read-small rev file table h = rw h (omega (arith, Answers.read-small rev file table))
 
-pub edit-small : (table : List ℤ) (n line : ℕ) (text : List ℕ) {s : Said} → s ≡ said (editAnswer table n line text) → valueOf s < shift
-edit-small table n line text h = rw h (omega (arith, Answers.edit-small table n line text))
+pub edit-small : (rev : Revision) (table : List ℤ) (n line : ℕ) (text : List ℕ) {s : Said} → s ≡ said (editAnswer rev table n line text) → valueOf s < shift
+edit-small rev table n line text h = rw h (omega (arith, Answers.edit-small rev table n line text))
 
 pub write-small : (table : List ℤ) (n : ℕ) (text : List ℕ) {s : Said} → s ≡ said (writeAnswer table n text) → valueOf s < shift
 write-small table n text h = rw h (omega (arith, Answers.write-small table n text))

@@ -1,11 +1,14 @@
--- An answer as one number of 64 bits: its number in document 01 times 2^32, and the count or line.
+-- The revision that a number names, and an answer as one number of 64 bits: its number in document 01 times 2^32, and the count or
+-- line.
 use mathlib.Core.Bool.{cond}
 use mathlib.Core.List.{List, [], _∷_}
 use Prim.Native.Nat.{ℕ, _+_, _*_, _≤_}
-use lib.Dec.{leb}
+use lib.Dec.{leb, eqb}
 use lib.IntN.{ℤ}
 use lib.ListN.{length}
 use Rattle.lists.specs.Put.{putAt}
+use Rattle.rules.specs.declared.Revision.{Revision}
+use Rattle.rules.specs.declared.Revision.the-variants.{Rev2019, Rev2021}
 use Rattle.rules.specs.declared.Hole.{Hole}
 use Rattle.rules.specs.declared.HoleAnswer.{HoleAnswer}
 use Rattle.rules.specs.declared.HoleAnswer.the-variants as H
@@ -13,6 +16,10 @@ use Rattle.rules.specs.Refusals.{noRoom}
 use Rattle.rules.specs.Answers.{Said, success, refusal, numberOf, valueOf, said, holeSaid}
 use Rattle.rules.specs.declared.Refusal.{Refusal}
 use Rattle.rules.specs.declared.Answer.{Answer}
+
+-- 2019 is that revision, any other number 2021
+abbrev pub revisionOf : ℕ → Revision
+revisionOf n = cond (eqb n 2019) Rev2019 Rev2021
 
 abbrev pub shift : ℕ
 shift = 4294967296

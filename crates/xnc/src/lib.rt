@@ -9,17 +9,28 @@ ghost use Rattle.rules.specs.Reading.{readAnswer, readLeaves};
 ghost use Rattle.rules.specs.Editing.{editAnswer, editLeaves};
 ghost use Rattle.rules.specs.Writing.{writeAnswer, writeLeaves};
 ghost use Rattle.rules.specs.Asking.{holeAnswer};
-ghost use Rattle.xnc.specs.Door.{holeWidth, shift, packed, packedRefusal, HoleOk, holePacked, holeLeaves};
+ghost use Rattle.xnc.specs.Door.{holeWidth, revisionOf, shift, packed, packedRefusal, HoleOk, holePacked, holeLeaves};
 use rules::Answer;
 use rules::Hole;
 use rules::HoleAnswer;
 use rules::NO_ROOM;
 use rules::Refusal;
+use rules::Revision;
 
 const SHIFT: u64 = 4294967296;
 
 // Numbers of a hole: kind, tool, start x and y, end x and y, radius.
 const HOLE_WIDTH: usize = 7;
+
+// The revision that a caller's number names: 2019 is that one, any other number 2021.
+fn revision_of(number: u32) -> Revision
+    ensures { λ r. ⌜ r ≡ revisionOf number ⌝ }
+{
+    if number == 2019 {
+        return Revision::Rev2019;
+    }
+    Revision::Rev2021
+}
 
 // A refusal's number and its line. No line and no count comes near 2^32, so nothing is cut off.
 fn pack_refusal(refusal: Refusal, line: usize) -> u64
@@ -41,18 +52,24 @@ fn pack(answer: Answer) -> u64
 
 /// See include/xnc.h.
 #[no_mangle]
-pub extern "C" fn xnc_read(file: &[u8], table: &mut [i32]) -> u64
-    ensures { λ r. ⌜ (r ≡ packed (readAnswer (now (file .entry)) (now (table .entry)))) × (now (table .exit) ≡ readLeaves (now (file .entry)) (now (table .entry))) ⌝ }
+pub extern "C" fn xnc_read(file: &[u8], revision: u32, table: &mut [i32]) -> u64
+    ensures { λ r. ⌜ (r ≡ packed (readAnswer (revisionOf revision) (now (file .entry)) (now (table .entry)))) × (now (table .exit) ≡ readLeaves (revisionOf revision) (now (file .entry)) (now (table .entry))) ⌝ }
 {
-    pack(reader::read(file, table))
+    pack(reader::read(file, revision_of(revision), table))
 }
 
 /// See include/xnc.h.
 #[no_mangle]
-pub extern "C" fn xnc_edit(table: &mut [i32], n: usize, line: usize, text: &[u8]) -> u64
-    ensures { λ r. ⌜ (r ≡ packed (editAnswer (now (table .entry)) n line (now (text .entry)))) × (now (table .exit) ≡ editLeaves (now (table .entry)) n line (now (text .entry))) ⌝ }
+pub extern "C" fn xnc_edit(
+    table: &mut [i32],
+    n: usize,
+    line: usize,
+    text: &[u8],
+    revision: u32,
+) -> u64
+    ensures { λ r. ⌜ (r ≡ packed (editAnswer (revisionOf revision) (now (table .entry)) n line (now (text .entry)))) × (now (table .exit) ≡ editLeaves (revisionOf revision) (now (table .entry)) n line (now (text .entry))) ⌝ }
 {
-    pack(editor::edit(table, n, line, text))
+    pack(editor::edit(table, n, line, text, revision_of(revision)))
 }
 
 // A hole's seven numbers at the front of the block, the rest as it was.

@@ -7,7 +7,7 @@
 //! ```no_run
 //! let file = b"M48\nMETRIC\nT01C0.5\n%\nG05\nT1\nX2Y-3.5\nM30\n";
 //! let mut table = [0; 15 * 8];
-//! let rows = xnc::read(file, &mut table).result()? as usize;
+//! let rows = xnc::read(file, xnc::Revision::Rev2021, &mut table).result()? as usize;
 //! let mut hole = [0; 7];
 //! if xnc::hole(&table, rows, 7, &mut hole).result()? == 1 {
 //!     println!("tool {} at {}, {}", hole[1], hole[2], hole[3]);
@@ -19,8 +19,13 @@ use std::fmt;
 
 mod raw {
     extern "C" {
-        pub fn xnc_read(file: *const u8, file_len: usize, table: *mut i32, table_len: usize)
-            -> u64;
+        pub fn xnc_read(
+            file: *const u8,
+            file_len: usize,
+            revision: u32,
+            table: *mut i32,
+            table_len: usize,
+        ) -> u64;
         pub fn xnc_edit(
             table: *mut i32,
             table_len: usize,
@@ -28,6 +33,7 @@ mod raw {
             line: usize,
             text: *const u8,
             text_len: usize,
+            revision: u32,
         ) -> u64;
         pub fn xnc_hole(
             table: *const i32,
@@ -45,6 +51,15 @@ mod raw {
             text_len: usize,
         ) -> u64;
     }
+}
+
+/// The revision of XNC by whose rule lines are read: 2019 also takes a
+/// declaration with one digit, as `T1C0.6`. All else is the same by both.
+#[derive(Clone, Copy, Debug, Default, PartialEq, Eq)]
+pub enum Revision {
+    Rev2019 = 2019,
+    #[default]
+    Rev2021 = 2021,
 }
 
 /// What a function answers: number 0 and a count, or a refusal's number and
@@ -89,17 +104,19 @@ impl std::error::Error for Refusal {}
 // The library keeps no pointer.
 
 /// Reads `file` into `table`, fifteen numbers a line. Counts the lines.
-pub fn read(file: &[u8], table: &mut [i32]) -> Answer {
+pub fn read(file: &[u8], revision: Revision, table: &mut [i32]) -> Answer {
+    let revision = revision as u32;
     Answer::unpack(unsafe {
-        raw::xnc_read(file.as_ptr(), file.len(), table.as_mut_ptr(), table.len())
+        raw::xnc_read(file.as_ptr(), file.len(), revision, table.as_mut_ptr(), table.len())
     })
 }
 
 /// Puts `text` in the place of line `line` (from 1) of the table's `n` rows.
 /// Counts the meeting line: the rows from `line` to it may have changed.
-pub fn edit(table: &mut [i32], n: usize, line: usize, text: &[u8]) -> Answer {
+pub fn edit(table: &mut [i32], n: usize, line: usize, text: &[u8], revision: Revision) -> Answer {
+    let revision = revision as u32;
     Answer::unpack(unsafe {
-        raw::xnc_edit(table.as_mut_ptr(), table.len(), n, line, text.as_ptr(), text.len())
+        raw::xnc_edit(table.as_mut_ptr(), table.len(), n, line, text.as_ptr(), text.len(), revision)
     })
 }
 

@@ -11,46 +11,46 @@ use Rattle.command.proofs.g_line.Statement.{statement}
 use Rattle.command.proofs.g_line.Tie as tie
 
 returns : tie.Need-returns
-returns c = c .says-no .ensures ∙ g-short (c .before .before .before .args .s .now) (c .before .if1 .taken)
+returns c rev = c .says-no .ensures ∙ g-short rev (c .before .before .before .args .s .now) (c .before .if1 .taken)
 
 returns-2 : tie.Need-returns-2
-returns-2 c = c .says-no2 .ensures ∙ g-no-zero (c .before .before .before .before .before .args .s .now) (c .before .before .before .if1 .left) (c .before .if2 .taken)
+returns-2 c rev = c .says-no2 .ensures ∙ g-no-zero rev (c .before .before .before .before .before .args .s .now) (c .before .before .before .if1 .left) (c .before .if2 .taken)
 
 returns-3 : tie.Need-returns-3
 unfolding commandOf formOf startsWith
-returns-3 c =
+returns-3 c rev =
     let b = c .before .before .before in
-    c .point-line .ensures ∙ g-is (b .before .before .before .before .args .s .now) (b .before .before .if1 .left) (b .if2 .left) (c .before .match .keys1)
+    c .point-line .ensures ∙ g-is rev (b .before .before .before .before .args .s .now) (b .before .before .if1 .left) (b .if2 .left) (c .before .match .keys1)
 
 returns-4 : tie.Need-returns-4
 unfolding commandOf formOf startsWith
-returns-4 c =
+returns-4 c rev =
     let b = c .before .before .before in
-    c .point-line2 .ensures ∙ g-is (b .before .before .before .before .args .s .now) (b .before .before .if1 .left) (b .if2 .left) (c .before .match .keys2)
+    c .point-line2 .ensures ∙ g-is rev (b .before .before .before .before .args .s .now) (b .before .before .if1 .left) (b .if2 .left) (c .before .match .keys2)
 
 returns-5 : tie.Need-returns-5
 unfolding commandOf formOf startsWith
-returns-5 c =
+returns-5 c rev =
     let b = c .before .before .before in
-    c .arc-line .ensures ∙ g-is (b .before .before .before .before .args .s .now) (b .before .before .if1 .left) (b .if2 .left) (c .before .match .keys3)
+    c .arc-line .ensures ∙ g-is rev (b .before .before .before .before .args .s .now) (b .before .before .if1 .left) (b .if2 .left) (c .before .match .keys3)
 
 returns-6 : tie.Need-returns-6
 unfolding commandOf formOf startsWith
-returns-6 c =
+returns-6 c rev =
     let b = c .before .before .before in
-    c .arc-line2 .ensures ∙ g-is (b .before .before .before .before .args .s .now) (b .before .before .if1 .left) (b .if2 .left) (c .before .match .keys4)
+    c .arc-line2 .ensures ∙ g-is rev (b .before .before .before .before .args .s .now) (b .before .before .if1 .left) (b .if2 .left) (c .before .match .keys4)
 
 returns-7 : tie.Need-returns-7
 unfolding commandOf formOf startsWith meaningOf
-returns-7 c =
+returns-7 c rev =
     let b = c .before .before .before .before in
-    c .word-line .ensures ∙ word-is _ [] g05 K.G05 refl ∙ g-is (b .before .before .before .before .args .s .now) (b .before .before .if1 .left) (b .if2 .left)
+    c .word-line .ensures ∙ word-is _ [] g05 K.G05 refl ∙ g-is rev (b .before .before .before .before .args .s .now) (b .before .before .if1 .left) (b .if2 .left)
     (c .before .before .match .keys5)
 
 returns-8 : tie.Need-returns-8
-returns-8 c =
+returns-8 c rev =
     let b = c .before .before .before in
-    c .says-no3 .ensures ∙ g-no-digit (b .before .before .before .before .args .s .now) (b .before .before .if1 .left) (b .if2 .left) (c .before .match .rest)
+    c .says-no3 .ensures ∙ g-no-digit rev (b .before .before .before .before .args .s .now) (b .before .before .if1 .left) (b .if2 .left) (c .before .match .rest)
 
 pub g-line-spec : {M : Type 1} → statement M
 g-line-spec =

@@ -11,39 +11,53 @@ use Rattle.command.proofs.read.Statement.{statement}
 use Rattle.command.proofs.read.Tie as tie
 
 returns : tie.Need-returns
-returns c = c .says-no .ensures ∙ empty-line (c .before .before .before .args .s .now) (c .before .if1 .taken)
+returns c =
+    let a = c .before .before .before .args in
+    c .says-no .ensures ∙ empty-line (a .revision) (a .s .now) (c .before .if1 .taken)
 
 returns-2 : tie.Need-returns-2
-returns-2 c = c .point-line .ensures ∙ first-x (c .before .before .before .before .before .args .s .now) (c .before .before .before .if1 .left) (c .before .match .keys1)
+returns-2 c =
+    let a = c .before .before .before .before .before .args in
+    c .point-line .ensures ∙ first-x (a .revision) (a .s .now) (c .before .before .before .if1 .left) (c .before .match .keys1)
 
 returns-3 : tie.Need-returns-3
-returns-3 c = c .g-line .ensures ∙ first-is (c .before .before .before .before .before .args .s .now) (c .before .before .before .if1 .left) (c .before .match .keys2)
+returns-3 c =
+    let a = c .before .before .before .before .before .args in
+    c .g-line .ensures _ ∙ first-is (a .revision) (a .s .now) (c .before .before .before .if1 .left) (c .before .match .keys2)
 
 returns-4 : tie.Need-returns-4
-returns-4 c = c .m-line .ensures ∙ first-is (c .before .before .before .before .before .args .s .now) (c .before .before .before .if1 .left) (c .before .match .keys3)
+returns-4 c =
+    let a = c .before .before .before .before .before .args in
+    c .m-line .ensures _ ∙ first-is (a .revision) (a .s .now) (c .before .before .before .if1 .left) (c .before .match .keys3)
 
 returns-5 : tie.Need-returns-5
 unfolding commandOf formOf startsWith
-returns-5 c = c .tool-line .ensures ∙ first-is (c .before .before .before .before .before .args .s .now) (c .before .before .before .if1 .left) (c .before .match .keys4)
+returns-5 c =
+    let a = c .before .before .before .before .before .args in
+    c .tool-line .ensures ∙ first-is (a .revision) (a .s .now) (c .before .before .before .if1 .left) (c .before .match .keys4)
 
 returns-6 : tie.Need-returns-6
 unfolding commandOf formOf startsWith meaningOf
 returns-6 c =
-    c .word-line .ensures ∙ word-is _ [] percent K.Percent refl ∙ first-is (c .before .before .before .before .before .before .args .s .now)
-    (c .before .before .before .before .if1 .left) (c .before .before .match .keys5)
+    let a = c .before .before .before .before .before .before .args in
+    c .word-line .ensures ∙ word-is _ [] percent K.Percent refl ∙ first-is (a .revision) (a .s .now) (c .before .before .before .before .if1 .left) (c .before .before .match .keys5)
 
 returns-7 : tie.Need-returns-7
 unfolding commandOf formOf startsWith
-returns-7 c = c .comment-line .ensures ∙ first-is (c .before .before .before .before .before .args .s .now) (c .before .before .before .if1 .left) (c .before .match .keys6)
+returns-7 c =
+    let a = c .before .before .before .before .before .args in
+    c .comment-line .ensures ∙ first-is (a .revision) (a .s .now) (c .before .before .before .if1 .left) (c .before .match .keys6)
 
 returns-8 : tie.Need-returns-8
 unfolding commandOf formOf startsWith meaningOf
 returns-8 c =
-    c .word-line2 .ensures ∙ word-is _ (bytes "NCH") inch K.Inch refl ∙ first-is (c .before .before .before .before .before .before .args .s .now)
-    (c .before .before .before .before .if1 .left) (c .before .before .match .keys7)
+    let a = c .before .before .before .before .before .before .args in
+    c .word-line2 .ensures ∙ word-is _ (bytes "NCH") inch K.Inch refl ∙ first-is (a .revision) (a .s .now) (c .before .before .before .before .if1 .left) (c .before .before .match .keys7)
 
 returns-9 : tie.Need-returns-9
-returns-9 c = c .says-no2 .ensures ∙ first-other (c .before .before .before .before .before .args .s .now) (c .before .before .before .if1 .left) (c .before .match .rest)
+returns-9 c =
+    let a = c .before .before .before .before .before .args in
+    c .says-no2 .ensures ∙ first-other (a .revision) (a .s .now) (c .before .before .before .if1 .left) (c .before .match .rest)
 
 pub read-spec : {M : Type 1} → statement M
 read-spec =

@@ -10,22 +10,22 @@ use Rattle.editor.proofs.edit.Tie as tie
 returns : tie.Need-returns
 returns c =
     let e = c .before in let a = e .before .before .before .args in
-    edit-sizes (a .table .now) (a .n) (a .line) (a .text .now) (e .sizes-fit .ensures) (c .if1 .taken)
+    edit-sizes (a .revision) (a .table .now) (a .n) (a .line) (a .text .now) (e .sizes-fit .ensures) (c .if1 .taken)
 
 returns-2 : tie.Need-returns-2
 returns-2 c =
     let e = c .before in let a = e .before .before .before .before .before .args in
-    edit-line (a .table .now) (a .n) (a .line) (a .text .now) (e .before .before .sizes-fit .ensures) (e .before .if1 .left) (e .is-line .ensures)
+    edit-line (a .revision) (a .table .now) (a .n) (a .line) (a .text .now) (e .before .before .sizes-fit .ensures) (e .before .if1 .left) (e .is-line .ensures)
     (c .if2 .taken)
 
 returns-3 : tie.Need-returns-3
 returns-3 c =
     let e = c .before in let a = e .before .before .before .before .before .before .before .args in
-    edit-end (a .table .now) (a .n) (a .line) (a .text .now) (e .before .before .before .before .sizes-fit .ensures) (e .before .before .before .if1 .left)
+    edit-end (a .revision) (a .table .now) (a .n) (a .line) (a .text .now) (e .before .before .before .before .sizes-fit .ensures) (e .before .before .before .if1 .left)
     (e .before .before .is-line .ensures) (e .before .if2 .left) (e .no-line-end .ensures) (c .if3 .taken)
 
-sub-t22 : tie.Need-sub-t22
-sub-t22 c =
+sub-t23 : tie.Need-sub-t23
+sub-t23 c =
     omega (
       arith,
       line-says _ _
@@ -45,7 +45,7 @@ returns-4 : tie.Need-returns-4
 returns-4 c =
     let e = c .before .before .before .before .before .before .before .before .before .before .before .before .before .before in
     let a = e .before .before .before .before .before .before .before .before .args in
-    edit-text (a .table .now) (a .n) (a .line) (a .text .now) (e .before .before .before .before .before .sizes-fit .ensures)
+    edit-text (a .revision) (a .table .now) (a .n) (a .line) (a .text .now) (e .before .before .before .before .before .sizes-fit .ensures)
     (e .before .before .before .before .if1 .left) (e .before .before .before .is-line .ensures) (e .before .before .if2 .left)
     (e .before .no-line-end .ensures) (e .if3 .left)
     (c .before .before .before .before .before .before .before .before .before .before .before .before .state-before .ensures) _
@@ -57,7 +57,7 @@ edit-from-requires : tie.Need-edit-from-requires
 edit-from-requires c κs =
     let e = c .before .before .before .before .before .before .before .before .before .before .before .before .before .before .before in
     let a = e .before .before .before .before .before .before .before .before .args in
-    edit-may (a .table .now) (a .n) (a .line) (a .text .now) (e .before .before .before .before .before .sizes-fit .ensures)
+    edit-may (a .revision) (a .table .now) (a .n) (a .line) (a .text .now) (e .before .before .before .before .before .sizes-fit .ensures)
     (e .before .before .before .before .if1 .left) (e .before .before .before .is-line .ensures) (e .before .before .if2 .left)
     (e .before .no-line-end .ensures) (e .if3 .left)
     (c .before .before .before .before .before .before .before .before .before .before .before .before .before .state-before .ensures) _
@@ -68,7 +68,7 @@ edit-from-requires c κs =
 returns-5 : tie.Need-returns-5
 returns-5 c =
     let e = c .before .before .before .before in let a = e .before .before .before .before .before .before .before .before .args in
-    edit-before (a .table .now) (a .n) (a .line) (a .text .now) (e .before .before .before .before .before .sizes-fit .ensures)
+    edit-before (a .revision) (a .table .now) (a .n) (a .line) (a .text .now) (e .before .before .before .before .before .sizes-fit .ensures)
     (e .before .before .before .before .if1 .left) (e .before .before .before .is-line .ensures) (e .before .before .if2 .left)
     (e .before .no-line-end .ensures) (e .if3 .left) (c .before .before .state-before .ensures) (c .enum-told .given .1)
 
@@ -76,7 +76,7 @@ returns-6 : tie.Need-returns-6
 returns-6 c =
     let e = c .before .before .before .before .before .before .before .before .before in
     let a = e .before .before .before .before .before .before .before .before .args in
-    edit-old (a .table .now) (a .n) (a .line) (a .text .now) (e .before .before .before .before .before .sizes-fit .ensures)
+    edit-old (a .revision) (a .table .now) (a .n) (a .line) (a .text .now) (e .before .before .before .before .before .sizes-fit .ensures)
     (e .before .before .before .before .if1 .left) (e .before .before .before .is-line .ensures) (e .before .before .if2 .left)
     (e .before .no-line-end .ensures) (e .if3 .left) (c .before .before .before .before .before .before .before .state-before .ensures) _
     (c .before .before .before .before .before .before2 .given .1) (c .before .before .look .ensures) (c .enum-told2 .given .1)
@@ -85,7 +85,7 @@ returns-7 : tie.Need-returns-7
 returns-7 c =
     let e = c .before .before .before .before .before .before .before .before .before .before .before .before .before .before .before .before .before in
     let a = e .before .before .before .before .before .before .before .before .args in
-    edit-done (a .table .now) (a .n) (a .line) (a .text .now) (e .before .before .before .before .before .sizes-fit .ensures)
+    edit-done (a .revision) (a .table .now) (a .n) (a .line) (a .text .now) (e .before .before .before .before .before .sizes-fit .ensures)
     (e .before .before .before .before .if1 .left) (e .before .before .before .is-line .ensures) (e .before .before .if2 .left)
     (e .before .no-line-end .ensures) (e .if3 .left)
     (c .before .before .before .before .before .before .before .before .before .before .before .before .before .before .before .state-before .ensures) _
@@ -109,7 +109,7 @@ edit-spec =
     returns-3
     (λ c κs. search needs)
     (λ c. search needs)
-    sub-t22
+    sub-t23
     (λ c. search needs)
     sub-look
     (λ c κs. search needs)

@@ -6,13 +6,13 @@ use Rattle.line.proofs.answer.Statement.{statement}
 use Rattle.line.proofs.answer.Tie as tie
 
 returns : tie.Need-returns
-returns c = c .says-no .ensures ∙ too-many _ _ _ (c .before .if1 .taken)
+returns c = c .says-no .ensures ∙ too-many _ _ _ _ (c .before .if1 .taken)
 
 returns-2 : tie.Need-returns-2
-returns-2 c = c .says-no2 .ensures ∙ not-ended _ _ _ (c .before .before .if1 .left) (c .before .if2 .taken)
+returns-2 c = c .says-no2 .ensures ∙ not-ended _ _ _ _ (c .before .before .if1 .left) (c .before .if2 .taken)
 
 returns-3 : tie.Need-returns-3
-returns-3 c = c .read .ensures ∙ text-says _ _ _ (c .before .before .before .if1 .left) (c .before .before .if2 .left) (c .before .text-of .ensures .0)
+returns-3 c = c .read .ensures ∙ text-says _ _ _ _ (c .before .before .before .if1 .left) (c .before .before .if2 .left) (c .before .text-of .ensures .0)
 
 pub answer-spec : {M : Type 1} → statement M
 answer-spec =

@@ -6,17 +6,17 @@ use Rattle.line.proofs.read.Statement.{statement}
 use Rattle.line.proofs.read.Tie as tie
 
 returns : tie.Need-returns
-returns c = c .says-no .ensures ∙ too-long (c .before .before .before .args .text .now) (c .before .if1 .taken)
+returns c = c .says-no .ensures ∙ too-long _ _ (c .before .if1 .taken)
 
 returns-2 : tie.Need-returns-2
 returns-2 c =
     let b = c .before .before in
-    c .says-no2 .ensures ∙ forbidden (b .before .before .before .args .text .now) (b .before .if1 .left) (b .printable .ensures) (c .before .if2 .taken)
+    c .says-no2 .ensures ∙ forbidden _ _ (b .before .if1 .left) (b .printable .ensures) (c .before .if2 .taken)
 
 returns-3 : tie.Need-returns-3
 returns-3 c =
     let b = c .before .before in
-    c .read .ensures ∙ allowed (b .before .before .before .args .text .now) (b .before .if1 .left) (b .printable .ensures) (c .before .if2 .left)
+    c .read .ensures ∙ allowed _ _ (b .before .if1 .left) (b .printable .ensures) (c .before .if2 .left)
 
 pub read-spec : {M : Type 1} → statement M
 read-spec =

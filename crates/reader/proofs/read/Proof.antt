@@ -7,15 +7,15 @@ use Rattle.reader.proofs.read.Statement.{statement}
 use Rattle.reader.proofs.read.Tie as tie
 
 returns : tie.Need-returns
-returns c = read-long _ _ (c .if1 .taken)
+returns c = read-long _ _ _ (c .if1 .taken)
 
 returns-2 : tie.Need-returns-2
-returns-2 c = let b = c .before .before .before .before in read-refused _ _ (b .before .before .if1 .left) (b .read-lines .ensures) (c .before .refusal .given .1)
+returns-2 c = let b = c .before .before .before .before in read-refused _ _ _ (b .before .before .if1 .left) (b .read-lines .ensures) (c .before .refusal .given .1)
 
 returns-3 : tie.Need-returns-3
 returns-3 c =
     let b = c .before .before .before .before .before in
-    read-no-room _ (b .before .before .before .before .args .table .now) (b .before .before .if1 .left) (b .read-lines .ensures) _ (c .before .before .n .given .1)
+    read-no-room _ _ (b .before .before .before .before .args .table .now) (b .before .before .if1 .left) (b .read-lines .ensures) _ (c .before .before .n .given .1)
     (c .if2 .taken)
 
 array-share-prefix-block : tie.Need-array-share-prefix-block
@@ -30,7 +30,7 @@ slice-aggregate-copy c =
 returns-4 : tie.Need-returns-4
 returns-4 c =
     let b = c .before .before .before .before .before .before .before .before .before in
-    read-done _ (b .before .before .before .before .args .table .now) (b .before .before .if1 .left) (b .read-lines .ensures) _
+    read-done _ _ (b .before .before .before .before .args .table .now) (b .before .before .if1 .left) (b .read-lines .ensures) _
     (c .before .before .before .before .before .before .n .given .1) (c .before .before .before .before .if2 .left) (c .before .copy .ensures)
 
 pub read-spec : {M : Type 1} → statement M

@@ -9,10 +9,10 @@ use Rattle.reader.proofs.read_lines.Statement.{statement}
 use Rattle.reader.proofs.read_lines.Tie as tie
 
 abbrev Inv-loop : tie.InvT-loop
-Inv-loop file rows₀ state₀ n₀ at₀ rows state n at = Going file rows₀ rows state n at
+Inv-loop file revision rows₀ state₀ n₀ at₀ rows state n at = Going revision file rows₀ rows state n at
 
 abbrev μ-loop : tie.MeasureT-loop
-μ-loop file rows₀ state₀ n₀ at₀ rows state n at = length file - at
+μ-loop file revision rows₀ state₀ n₀ at₀ rows state n at = length file - at
 
 loop-holds : tie.Need-loop-holds Inv-loop μ-loop
 loop-holds c = rw (c .new .ensures) (going-start _ _)
@@ -28,8 +28,8 @@ part-answer-end c =
     let h = line-within (c .before .before .before .before .before .args .file .now) (c .before .before .loop .at) _ (c .find-lf .ensures) (omega arith) in
     omega arith
 
-add-t19 : tie.Need-add-t19 Inv-loop μ-loop
-add-t19 c = omega arith
+add-t20 : tie.Need-add-t20 Inv-loop μ-loop
+add-t20 c = omega arith
 
 same-length : tie.Need-same-length Inv-loop μ-loop
 same-length c = c .before .before .before .before .before .before .before .loop .inv .room
@@ -40,8 +40,8 @@ returns c =
     let l = b .before .before .loop in
     turn-refused _ _ (l .rows) _ (l .n) (l .at) (l .inv) (b .before .loop-test .taken) _ (b .find-lf .ensures) (c .before .before .before .answer .ensures) (c .if1 .taken)
 
-add-t21 : tie.Need-add-t21 Inv-loop μ-loop
-add-t21 c = omega arith
+add-t22 : tie.Need-add-t22 Inv-loop μ-loop
+add-t22 c = omega arith
 
 same-length-2 : tie.Need-same-length-2 Inv-loop μ-loop
 same-length-2 c = c .before .before .before .before .before .before .before .before .before .before .before .loop .inv .room
@@ -83,8 +83,8 @@ returns-3 c =
     let l = c .before .before .before .loop in
     turn-ended _ _ (l .rows) _ (l .n) (l .at) (l .inv) (c .before .before .loop-test .left) (c .before .has-ended .ensures) (c .if2 .taken)
 
-add-t27 : tie.Need-add-t27 Inv-loop μ-loop
-add-t27 c = omega arith
+add-t28 : tie.Need-add-t28 Inv-loop μ-loop
+add-t28 c = omega arith
 
 same-length-4 : tie.Need-same-length-4 Inv-loop μ-loop
 same-length-4 c = c .before .before .before .loop .inv .room
@@ -108,12 +108,12 @@ read-lines-spec =
     (λ c. search needs)
     part-answer-end
     (λ c κs. search needs)
-    add-t19
+    add-t20
     same-length
     returns
     (λ c κs. search needs)
     (λ c. search needs)
-    add-t21
+    add-t22
     same-length-2
     returns-2
     (λ c. search needs)
@@ -125,6 +125,6 @@ read-lines-spec =
     (λ c κs. search needs)
     same-length-3
     returns-3
-    add-t27
+    add-t28
     same-length-4
     returns-4)

@@ -5,15 +5,15 @@ use Rattle.report.proofs.holes.Statement.{statement}
 use Rattle.report.proofs.holes.Tie as tie
 
 returns : tie.Need-returns
-returns c = let s = c .before .before .before in table-short (s .args .file .now) (s .args .table .now) (s .args .text .now) (c .if1 .taken)
+returns c = let s = c .before .before .before in table-short (s .args .revision) (s .args .file .now) (s .args .table .now) (s .args .text .now) (c .if1 .taken)
 
 returns-2 : tie.Need-returns-2
-returns-2 c = let s = c .before .before .before .before in text-short (s .args .file .now) (s .args .table .now) (s .args .text .now) (c .before .if1 .left) (c .if2 .taken)
+returns-2 c = let s = c .before .before .before .before in text-short (s .args .revision) (s .args .file .now) (s .args .table .now) (s .args .text .now) (c .before .if1 .left) (c .if2 .taken)
 
 put-rows-requires : tie.Need-put-rows-requires
 put-rows-requires c κs =
     let s = c .before .before .before .before .before .before .before .before .before .before .before .before in
-    some-lines (s .args .file .now) (s .args .table .now) (s .args .text .now)
+    some-lines (s .args .revision) (s .args .file .now) (s .args .table .now) (s .args .text .now)
     (c .before .before .before .before .before .before .before .before .before .if1 .left)
     (c .before .before .before .before .before .before .before .before .if2 .left)
     (c .before .before .before .before .before .before .read .ensures .0) _ (c .before .before .before .n .given .1)
@@ -21,7 +21,7 @@ put-rows-requires c κs =
 returns-3 : tie.Need-returns-3
 returns-3 c =
     let s = c .before .before .before .before .before .before .before .before .before .before .before .before .before .before .before .before .before in
-    file-refused (s .args .file .now) (s .args .table .now) (s .args .text .now)
+    file-refused (s .args .revision) (s .args .file .now) (s .args .table .now) (s .args .text .now)
     (c .before .before .before .before .before .before .before .before .before .before .before .before .before .before .if1 .left)
     (c .before .before .before .before .before .before .before .before .before .before .before .before .before .if2 .left)
     (c .before .before .before .before .before .before .before .before .before .before .before .read .ensures .0)
@@ -31,7 +31,7 @@ returns-3 c =
 returns-4 : tie.Need-returns-4
 returns-4 c =
     let s = c .before .before .before .before .before .before .before .before .before .before .before .before .before .before .before in
-    file-done (s .args .file .now) (s .args .table .now) (s .args .text .now)
+    file-done (s .args .revision) (s .args .file .now) (s .args .table .now) (s .args .text .now)
     (c .before .before .before .before .before .before .before .before .before .before .before .before .if1 .left)
     (c .before .before .before .before .before .before .before .before .before .before .before .if2 .left)
     (c .before .before .before .before .before .before .before .before .before .read .ensures .0) _

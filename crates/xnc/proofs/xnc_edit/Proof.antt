@@ -8,10 +8,12 @@ use Rattle.xnc.proofs.xnc_edit.Statement.{statement}
 use Rattle.xnc.proofs.xnc_edit.Tie as tie
 
 pack-requires : tie.Need-pack-requires
-pack-requires c κs = edit-small _ _ _ _ (c .before .edit .ensures .answer)
+pack-requires c κs = edit-small _ _ _ _ _ (c .before .edit .ensures .answer)
 
 returns : tie.Need-returns
-returns c = (c .pack .ensures ∙ ap packed (said-one (c .before .before .edit .ensures .answer)), c .before .before .edit .ensures .leaves)
+returns c =
+    rw (← c .before .before .before .revision-of .ensures)
+    (c .pack .ensures ∙ ap packed (said-one (c .before .before .edit .ensures .answer)), c .before .before .edit .ensures .leaves)
 
 pub xnc-edit-spec : {M : Type 1} → statement M
-xnc-edit-spec = tie.close (tie.spec (λ c κs. search needs) pack-requires (λ c. search needs) returns)
+xnc-edit-spec = tie.close (tie.spec (λ c κs. search needs) (λ c κs. search needs) pack-requires (λ c. search needs) returns)

@@ -3,8 +3,8 @@ use native.Mathlib.Omega.{arith}
 use lib.ListN.{length-take}
 use Rattle.show.proofs.Got.{got-within}
 use borrow.Author.Needs.{needs}
-use Rattle.holes.proofs.main.Statement.{statement}
-use Rattle.holes.proofs.main.Tie as tie
+use Rattle.holes.proofs.read_file.Statement.{statement}
+use Rattle.holes.proofs.read_file.Tie as tie
 
 array-share-prefix-file : tie.Need-array-share-prefix-file
 array-share-prefix-file c = omega (arith, got-within _ _ (c .before .got .given .1) (c .before .before .before .before .read-input .ensures))
@@ -12,8 +12,8 @@ array-share-prefix-file c = omega (arith, got-within _ _ (c .before .got .given 
 slice-aggregate-print-report : tie.Need-slice-aggregate-print-report
 slice-aggregate-print-report c = simp length-take (omega (arith, got-within _ _ (c .before .before .got .given .1) (c .before .before .before .before .before .read-input .ensures)))
 
-pub main-spec : {M : Type 1} → statement M
-main-spec =
+pub read-file-spec : {M : Type 1} → statement M
+read-file-spec =
     tie.close
     (tie.spec
     (λ c. search needs)
