@@ -21,10 +21,10 @@ use rules::LineAnswer;
 use rules::Refusal;
 use rules::Revision;
 
-// Of a tool number in a selection.
+// The fewest digits of a tool number in a selection.
 const FEWEST_SELECTED: usize = 1;
 
-// Of any tool number.
+// The most digits of any tool number.
 const MOST_DIGITS: usize = 2;
 
 // X, a number, Y, a number, as they are written.
@@ -219,6 +219,7 @@ fn fewest_declared(revision: Revision) -> usize
     }
 }
 
+// Are these as many digits as a tool number may have, where it has `fewest` at least?
 fn tool_digits(fewest: usize, digits: usize) -> bool
     ensures { λ r. ⌜ r ≡ toolDigits fewest digits ⌝ }
 {

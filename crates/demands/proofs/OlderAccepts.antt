@@ -1,5 +1,5 @@
 -- A file is its reading, and what 2021 reads so 2019 does; an edit depends on the revision by its new line alone.
-use mathlib.Core.Path.{_≡_, refl, sym, ap, _∙_}
+use mathlib.Core.Path.{_≡_, refl, sym, _∙_}
 use mathlib.Core.List.{List}
 use Prim.Native.Nat.{ℕ}
 use lib.IntN.{ℤ}

@@ -15,21 +15,21 @@ use Rattle.rules.specs.declared.Command.the-variants.{Declare}
 use Rattle.rules.specs.declared.LineAnswer.{LineAnswer}
 use Rattle.rules.specs.declared.Revision.the-variants.{Rev2019, Rev2021}
 use Rattle.rules.specs.Refusals.{noSuchForm}
-use Rattle.rules.specs.Numbers.{maxLine, isDigit, millionths, isSize, isTool}
+use Rattle.rules.specs.Numbers.{maxLine, isDigit, Decimal, millionths, isSize, isTool}
 use Rattle.rules.specs.Lines.{isPrintable}
-use Rattle.rules.specs.Commands.{Form, declare, Formed, is, no-form, toolForm, formOf, saysNo, inRange, meaningOf, commandOf, lineOf}
-use Rattle.rules.specs.Spelling.{Digits, Spells, comment-is, m48-is, metric-is, inch-is, declare-is, percent-is, g05-is, g00-is, select-is, hit-is, m15-is, m16-is, g01-is, g02-is, g03-is, m30-is, Printable}
+use Rattle.rules.specs.Commands.{Form, Formed, is, no-form, toolForm, formOf, saysNo, inRange, meaningOf, commandOf, lineOf}
+use Rattle.rules.specs.Spelling.{SpellsDeclared, tc, Spells, declare-is, Printable}
 use Rattle.obeys.proofs.Numbers.{digits-read}
 use Rattle.obeys.proofs.Forms.{form-read, form-iff}
 use Rattle.obeys.proofs.Lines.{printable-read}
-use Rattle.obeys.proofs.Older.{older-form}
+use Rattle.obeys.proofs.Older.{by-other, older-form}
 use Rattle.demands.specs.OlderAccepts.{OneDigit, one-digit}
 
 -- ---- such a declaration
 
 no-form-2021 : {l : List ℕ} → OneDigit l → formOf Rev2021 l ≡ no-form
 unfolding formOf toolForm startsWith isDigit
-no-form-2021 (one-digit {b = b} w v) = rw (digits-read w (bytes "C" ++ b) refl)
+no-form-2021 (one-digit (tc {b = b} w v)) = rw (digits-read w (bytes "C" ++ b) refl)
 
 pub always-5 : (l : List ℕ) → OneDigit l → length l ≤ maxLine → Printable l → lineOf Rev2021 l ≡ saysNo noSuchForm
 unfolding lineOf commandOf
@@ -45,8 +45,8 @@ in-range-not-5 false c e = omega arith
 
 command-not-5 : (l : List ℕ) → OneDigit l → Not5 (commandOf Rev2019 l)
 unfolding commandOf meaningOf
-command-not-5 l (one-digit {t = t} {d = d} w v) =
-    rw (form-read {rev = Rev2019} (declare-is w (omega arith) (omega arith) v)) (in-range-not-5 (isTool t && isSize d) (Declare t (millionths d)))
+command-not-5 l (one-digit {t = t} {d = d} w) =
+    rw (form-read {rev = Rev2019} (declare-is w (omega arith) (omega arith))) (in-range-not-5 (isTool t && isSize d) (Declare t (millionths d)))
 
 pub never-5 : (l : List ℕ) → OneDigit l → Not5 (lineOf Rev2019 l)
 unfolding lineOf
@@ -57,27 +57,13 @@ never-5 l w =
 
 -- ---- every other line
 
+-- so its form by 2019 has two digits
 newer-form : {l : List ℕ} {f : Form} → Spells Rev2019 l f → (OneDigit l → ⊥) → Spells Rev2021 l f
-newer-form (comment-is w) o = comment-is w
-newer-form m48-is o = m48-is
-newer-form metric-is o = metric-is
-newer-form inch-is o = inch-is
-newer-form (declare-is {ds = ds} {b = b} {k = k} {t = t} {d = d} w p q v) o = by (ℕ-discrete k 1)
+newer-form {l} w o = by-other w (λ b k t d e s p. by b k t d e s p (ℕ-discrete k 1))
   where
-    by : Dec (k ≡ 1) → Spells Rev2021 (bytes "T" ++ (ds ++ (bytes "C" ++ b))) (declare t d)
-    by (yes e) = absurd (o (one-digit (subst (λ (j : ℕ). Digits ds j t) e w) v))
-    by (no e) = declare-is w (omega arith) q v
-newer-form percent-is o = percent-is
-newer-form g05-is o = g05-is
-newer-form (g00-is w) o = g00-is w
-newer-form (select-is w p q) o = select-is w p q
-newer-form (hit-is w) o = hit-is w
-newer-form m15-is o = m15-is
-newer-form m16-is o = m16-is
-newer-form (g01-is w) o = g01-is w
-newer-form (g02-is w) o = g02-is w
-newer-form (g03-is w) o = g03-is w
-newer-form m30-is o = m30-is
+    by : (b : List ℕ) (k t : ℕ) (d : Decimal) → l ≡ bytes "T" ++ b → SpellsDeclared b k t d → 1 ≤ k → Dec (k ≡ 1) → 2 ≤ k
+    by b k t d e s p (yes h) = absurd (o (subst OneDigit (sym e) (one-digit (subst (λ (j : ℕ). SpellsDeclared b j t d) h s))))
+    by b k t d e s p (no h) = omega arith
 
 same-form : (l : List ℕ) → (OneDigit l → ⊥) → formOf Rev2019 l ≡ formOf Rev2021 l
 same-form l o = by (formOf Rev2019 l) (formOf Rev2021 l) refl refl

@@ -14,12 +14,12 @@ use Rattle.rules.specs.Numbers.{maxLine, Decimal}
 use Rattle.rules.specs.Commands.{says, saysNo, lineOf}
 use Rattle.rules.specs.Reading.{Rows, readAnswer, readLeaves}
 use Rattle.rules.specs.Editing.{editAnswer, editLeaves}
-use Rattle.rules.specs.Spelling.{Digits, Unsigned, Printable}
+use Rattle.rules.specs.Spelling.{SpellsDeclared, Printable}
 use Rattle.rules.specs.Obeys.{ReadingOf}
 
--- a declaration with one digit: T, a digit, C, a number
+-- a declaration with one digit
 pub data OneDigit : List ℕ → Type 0 where
-  one-digit : {ds b : List ℕ} {t : ℕ} {d : Decimal} → Digits ds 1 t → Unsigned b d → OneDigit (bytes "T" ++ (ds ++ (bytes "C" ++ b)))
+  one-digit : {b : List ℕ} {t : ℕ} {d : Decimal} → SpellsDeclared b 1 t d → OneDigit (bytes "T" ++ b)
 
 -- document 02's own
 pub record OneDigitLines : Type 0 where

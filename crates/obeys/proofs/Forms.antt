@@ -15,7 +15,7 @@ use Rattle.rules.specs.declared.Revision.{Revision}
 use Rattle.rules.specs.Numbers.{isDigit, DigitRun, digitsOf, Decimal, NumberRead, got, onNumber, unsignedOf, signedOf}
 use Rattle.rules.specs.Numbers as N
 use Rattle.rules.specs.Commands.{Form, m48, metric, inch, declare, percent, g05, g00, select, hit, m15, m16, g01, g02, g03, m30, Formed, is, no-form, atEnd, noSemicolon, commentForm, pointForm, arcForm, fewestDeclared, fewestSelected, mostDigits, toolDigits, declareForm, selectForm, afterTool, toolForm, formOf}
-use Rattle.rules.specs.Spelling.{Digits, Unsigned, Signed, SpellsPoint, xy, SpellsArc, xya, NoSemicolon, other, Spells, comment-is, m48-is, metric-is, inch-is, declare-is, percent-is, g05-is, g00-is, select-is, hit-is, m15-is, m16-is, g01-is, g02-is, g03-is, m30-is}
+use Rattle.rules.specs.Spelling.{Digits, Unsigned, Signed, SpellsPoint, xy, SpellsArc, xya, SpellsDeclared, tc, NoSemicolon, other, Spells, comment-is, m48-is, metric-is, inch-is, declare-is, percent-is, g05-is, g00-is, select-is, hit-is, m15-is, m16-is, g01-is, g02-is, g03-is, m30-is}
 use Rattle.rules.specs.Spelling as S
 use Rattle.rules.proofs.Revisions.{digits-fit, fit-digits}
 use Rattle.laws.proofs.Digits.{NoDigit, NoPoint}
@@ -49,10 +49,10 @@ unfolding noSemicolon
 comment-read S.nothing = refl
 comment-read (other {b = b} h w) = rw (ne-eqb b (code ";") h) (comment-read w)
 
-declare-read : (rev : Revision) {ds b : List ℕ} {k t : ℕ} {d : Decimal} → Digits ds k t → fewestDeclared rev ≤ k → k ≤ mostDigits → Unsigned b d
-    → toolForm rev (ds ++ (bytes "C" ++ b)) ≡ is (declare t d)
+declare-read : (rev : Revision) {b : List ℕ} {k t : ℕ} {d : Decimal} → SpellsDeclared b k t d → fewestDeclared rev ≤ k → k ≤ mostDigits
+    → toolForm rev b ≡ is (declare t d)
 unfolding toolForm startsWith isDigit
-declare-read rev {b = b} {k = k} w p q v = rw (digits-read w (bytes "C" ++ b) refl, digits-fit (fewestDeclared rev) k p q, unsigned-end v)
+declare-read rev {k = k} (tc {b = b} w v) p q = rw (digits-read w (bytes "C" ++ b) refl, digits-fit (fewestDeclared rev) k p q, unsigned-end v)
 
 select-read : (rev : Revision) {ds : List ℕ} {k t : ℕ} → Digits ds k t → fewestSelected ≤ k → k ≤ mostDigits → toolForm rev ds ≡ is (select t)
 unfolding toolForm startsWith
@@ -64,7 +64,7 @@ form-read (comment-is w) = rw (comment-read w)
 form-read m48-is = refl
 form-read metric-is = refl
 form-read inch-is = refl
-form-read {rev} (declare-is w p q v) = declare-read rev w p q v
+form-read {rev} (declare-is w p q) = declare-read rev w p q
 form-read percent-is = refl
 form-read g05-is = refl
 form-read (g00-is w) = point-end w (λ x y rest. atEnd rest (g00 x y))
@@ -170,7 +170,7 @@ module _ (rev : Revision) where
           (λ d rest w. ended-all (Sound (bytes "T" ++ l)) rest (declare (t .value) d) tt
           (λ e. subst (λ (z : List ℕ). Spells rev (bytes "T" ++ z) (declare (t .value) d)) (sym (v .parts ∙ ap (λ (z : List ℕ). v .b ++ z) (starts-true (t .rest) (bytes "C") s)))
           (let h = fit-digits (fewestDeclared rev) (t .count) c in
-          declare-is (v .has) (h .0) (h .1) (found-end (λ b. Unsigned b d) (drop 1 (t .rest)) rest w e)))))
+          declare-is (tc (v .has) (found-end (λ b. Unsigned b d) (drop 1 (t .rest)) rest w e)) (h .0) (h .1)))))
           (λ _. tt)
 
       selected : Sound (bytes "T" ++ l) (selectForm t)

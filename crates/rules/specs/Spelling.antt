@@ -42,6 +42,10 @@ pub data SpellsPoint : List ℕ → Decimal → Decimal → Type 0 where
 pub data SpellsArc : List ℕ → Decimal → Decimal → Decimal → Type 0 where
   xya : {a b : List ℕ} {x y r : Decimal} → SpellsPoint a x y → Unsigned b r → SpellsArc (a ++ (bytes "A" ++ b)) x y r
 
+-- a declaration behind its T: a tool number of k digits, and its diameter
+pub data SpellsDeclared : List ℕ → ℕ → ℕ → Decimal → Type 0 where
+  tc : {a b : List ℕ} {k t : ℕ} {d : Decimal} → Digits a k t → Unsigned b d → SpellsDeclared (a ++ (bytes "C" ++ b)) k t d
+
 pub data NoSemicolon : List ℕ → Type 0 where
   nothing : NoSemicolon []
   other : {b : ℕ} {l : List ℕ} → (b ≡ code ";" → ⊥) → NoSemicolon l → NoSemicolon (b ∷ l)
@@ -51,8 +55,8 @@ pub data Spells (rev : Revision) : List ℕ → Form → Type 0 where
   m48-is : Spells rev (bytes "M48") m48
   metric-is : Spells rev (bytes "METRIC") metric
   inch-is : Spells rev (bytes "INCH") inch
-  declare-is : {ds b : List ℕ} {k t : ℕ} {d : Decimal} → Digits ds k t → fewestDeclared rev ≤ k → k ≤ mostDigits → Unsigned b d
-      → Spells rev (bytes "T" ++ (ds ++ (bytes "C" ++ b))) (declare t d)
+  declare-is : {b : List ℕ} {k t : ℕ} {d : Decimal} → SpellsDeclared b k t d → fewestDeclared rev ≤ k → k ≤ mostDigits
+      → Spells rev (bytes "T" ++ b) (declare t d)
   percent-is : Spells rev (bytes "%") percent
   g05-is : Spells rev (bytes "G05") g05
   g00-is : {b : List ℕ} {x y : Decimal} → SpellsPoint b x y → Spells rev (bytes "G00" ++ b) (g00 x y)
