@@ -87,8 +87,10 @@ mistake 'T0C is out of range by 2019' 'declaration(value(ones), rest)' \
 mistake 'revision asked in a selection' '[ones @ b'\''0'\''..=b'\''9'\''] => {' \
     '[ones @ b'\''0'\''..=b'\''9'\''] if revision == Revision::Rev2019 => {'
 mistake 'read by 2021 alone' 'Command::of_line(text, revision).map_err(|number|' 'Command::of_line(text, Revision::Rev2021).map_err(|number|'
-mistake 'edit by 2021 alone' 'Command::of_line(text, revision).map_err(refused)?' 'Command::of_line(text, Revision::Rev2021).map_err(refused)?'
-mistake 'edit by 2019 alone' 'Command::of_line(text, revision).map_err(refused)?' 'Command::of_line(text, Revision::Rev2019).map_err(refused)?'
+mistake 'edit by 2021 alone' 'Command::of_line(text, revision).map_err(|number| refused_text(number, at, text))' \
+    'Command::of_line(text, Revision::Rev2021).map_err(|number| refused_text(number, at, text))'
+mistake 'edit by 2019 alone' 'Command::of_line(text, revision).map_err(|number| refused_text(number, at, text))' \
+    'Command::of_line(text, Revision::Rev2019).map_err(|number| refused_text(number, at, text))'
 mistake 'second semicolon read' 'need(!rest.contains(&b'\'';'\''), refuse::FORM)?;' ''
 mistake 'lower-case M48' 'b"M48" => Ok(Command::Start),' 'b"M48" | b"m48" => Ok(Command::Start),'
 mistake 'METRIC as INCH' 'b"METRIC" => Ok(Command::Metric)' 'b"METRIC" => Ok(Command::Inch)'
@@ -97,32 +99,59 @@ mistake 'METRIC as INCH' 'b"METRIC" => Ok(Command::Metric)' 'b"METRIC" => Ok(Com
 mistake 'line of 256 refused' 'line.len() <= MAX_LINE' 'line.len() < MAX_LINE'
 mistake 'line of 257 read' 'line.len() <= MAX_LINE' 'line.len() <= MAX_LINE + 1'
 mistake 'bytes before length' 'need(line.len() <= MAX_LINE, refuse::LINE_SIZE)?;
-        need(line.iter().all(|byte| (32..=126).contains(byte)), refuse::BYTE)?;' \
-    'need(line.iter().all(|byte| (32..=126).contains(byte)), refuse::BYTE)?;
+        need(line.iter().all(is_allowed), refuse::BYTE)?;' \
+    'need(line.iter().all(is_allowed), refuse::BYTE)?;
         need(line.len() <= MAX_LINE, refuse::LINE_SIZE)?;'
 mistake 'byte 127 read' '(32..=126)' '(32..=127)'
 mistake 'byte 31 read' '(32..=126)' '(31..=126)'
 mistake 'every CR taken off' 'text.strip_suffix(b"\r").unwrap_or(text)' \
     '{ let mut text = text; while let Some(cut) = text.strip_suffix(b"\r") { text = cut; } text }'
 mistake 'CR refused' 'text.strip_suffix(b"\r").unwrap_or(text)' 'text'
-mistake 'last line needs no LF' '.ok_or((refuse::NOT_ENDED, line))?' '.unwrap_or(rest.len() - 1)'
+mistake 'last line needs no LF' '.ok_or(refused(refuse::NOT_ENDED, line))?' '.unwrap_or(rest.len() - 1)'
 mistake 'file of 65,536 refused' 'file.len() <= MAX_FILE' 'file.len() < MAX_FILE'
 mistake 'file of 65,537 read' 'file.len() <= MAX_FILE' 'file.len() <= MAX_FILE + 1'
 mistake 'line 1,000 refused' 'line as usize <= MAX_LINES' '(line as usize) < MAX_LINES'
 mistake 'line 1,001 read' 'line as usize <= MAX_LINES' '(line as usize) <= MAX_LINES + 1'
-mistake 'too many lines known only at the LF' 'need(line as usize <= MAX_LINES, (refuse::LINE_COUNT, line))?;
-        let end = rest.iter().position(|&byte| byte == b'\''\n'\'').ok_or((refuse::NOT_ENDED, line))?;' \
-    'let end = rest.iter().position(|&byte| byte == b'\''\n'\'').ok_or((refuse::NOT_ENDED, line))?;
-        need(line as usize <= MAX_LINES, (refuse::LINE_COUNT, line))?;'
+mistake 'too many lines known only at the LF' 'need(line as usize <= MAX_LINES, refused(refuse::LINE_COUNT, line))?;
+        let end =
+            rest.iter().position(|&byte| byte == b'\''\n'\'').ok_or(refused(refuse::NOT_ENDED, line))?;' \
+    'let end = rest.iter().position(|&byte| byte == b'\''\n'\'').ok_or(refused(refuse::NOT_ENDED, line))?;
+        need(line as usize <= MAX_LINES, refused(refuse::LINE_COUNT, line))?;'
 mistake '14 at the last line' '(refuse::UNFINISHED, line + 1)' '(refuse::UNFINISHED, line)'
-mistake 'end not asked for' 'need(state.phase == phase::ENDED, (refuse::UNFINISHED, line + 1))?;' ''
+mistake 'end not asked for' 'need(state.phase == phase::ENDED, refused(refuse::UNFINISHED, line + 1))?;' ''
 mistake 'short table found out first' 'let rows = rows_of(file, revision)?;' \
-    'need(!table.is_empty(), (refuse::TOO_SHORT, 0))?; let rows = rows_of(file, revision)?;'
+    'need(!table.is_empty(), refused(refuse::TOO_SHORT, 0))?; let rows = rows_of(file, revision)?;'
 mistake 'rows written before the table is found short' 'let lent = table.get_mut(..rows.len())' \
     'if let (Some(first), false) = (table.first_mut(), rows.is_empty()) { *first = rows[0]; }
     let lent = table.get_mut(..rows.len())'
 mistake 'table cleared beyond the rows' 'lent.copy_from_slice(&rows);' \
     'lent.copy_from_slice(&rows); if let Some(next) = table.get_mut(rows.len()) { *next = 0; }'
+
+# Columns.
+mistake 'column one too far' 'index as u32 + 1' 'index as u32 + 2'
+mistake 'column counted from 0' 'index as u32 + 1' 'index as u32'
+mistake 'column in eight bits' 'index as u32 + 1' 'u32::from((index as u8).wrapping_add(1))'
+mistake 'last forbidden byte for the first' 'text.iter().position(|byte| !is_allowed(byte))' \
+    'text.iter().rposition(|byte| !is_allowed(byte))'
+mistake 'rightmost number for the leftmost' '(1..text.len()).find(' '(1..text.len()).rev().find('
+mistake 'digit after the sign' 'refuse::RANGE => out_of_range(text),' \
+    'refuse::RANGE => out_of_range(text).map(|at| at + usize::from(matches!(text[at], b'\''-'\'' | b'\''+'\''))),'
+mistake "letter's column for the number's" 'refuse::RANGE => out_of_range(text),' \
+    'refuse::RANGE => out_of_range(text).map(|at| at - 1),'
+mistake "tool's column 1" 'refuse::RANGE => out_of_range(text),' \
+    'refuse::RANGE => out_of_range(text).map(|at| if text[at - 1] == b'\''T'\'' { 0 } else { at }),'
+mistake 'a column for 5' 'refuse::RANGE => out_of_range(text),' \
+    'refuse::RANGE => out_of_range(text), refuse::FORM => Some(text.len()),'
+mistake 'a column for 6' 'refuse::RANGE => out_of_range(text),' \
+    'refuse::RANGE => out_of_range(text), refuse::LINE_SIZE => Some(MAX_LINE - 1),'
+mistake 'a column for 17' 'refused(refuse::LINE_END, 0)' '(refuse::LINE_END, 0, 1)'
+mistake 'a column for 18' '.ok_or(refused(refuse::TABLE, line as u32))' '.ok_or((refuse::TABLE, line as u32, 1))'
+mistake 'column of a reading left 0' 'refused_text(number, line, text)' 'refused(number, line)'
+mistake 'column of an edit left 0' 'refused_text(number, at, text)' 'refused(number, at)'
+mistake 'column counted from the start of the file' 'refused_text(number, line, text)' '{
+            let (number, line, column) = refused_text(number, line, text);
+            (number, line, if column == 0 { 0 } else { column + (file.len() - rest.len()) as u32 })
+        }'
 
 # The state.
 mistake 'comment after the end' 'Command::Comment => need(self.phase != phase::ENDED, refuse::PHASE)?,' 'Command::Comment => {}'
@@ -206,31 +235,33 @@ mistake 'n of 1,001' 'let numbers = n.min(MAX_LINES) * ROW;
     need((1..=MAX_LINES).contains(&n)' 'let numbers = n.min(MAX_LINES + 1) * ROW;
     need((1..=MAX_LINES + 1).contains(&n)'
 mistake 'n times fifteen wraps' 'let numbers = n.min(MAX_LINES) * ROW;
-    need((1..=MAX_LINES).contains(&n) && numbers <= table.len(), (refuse::TABLE, 0))?;
+    need((1..=MAX_LINES).contains(&n) && numbers <= table.len(), refused(refuse::TABLE, 0))?;
     Ok(numbers)' 'let numbers = n.wrapping_mul(ROW);
-    need(n >= 1 && numbers <= table.len(), (refuse::TABLE, 0))?;
-    need((1..=MAX_LINES).contains(&n), (refuse::LINE_NUMBER, 0))?;
+    need(n >= 1 && numbers <= table.len(), refused(refuse::TABLE, 0))?;
+    need((1..=MAX_LINES).contains(&n), refused(refuse::LINE_NUMBER, 0))?;
     Ok(numbers)'
 mistake 'table without a number to spare' 'numbers <= table.len()' 'numbers < table.len()'
-mistake 'line cut to 32 bits' 'need((1..=n).contains(&line), (refuse::LINE_NUMBER, 0))?;
+mistake 'line cut to 32 bits' 'need((1..=n).contains(&line), refused(refuse::LINE_NUMBER, 0))?;
     let ends_line' 'let line = line as u32 as usize;
-    need((1..=n).contains(&line), (refuse::LINE_NUMBER, 0))?;
+    need((1..=n).contains(&line), refused(refuse::LINE_NUMBER, 0))?;
     let ends_line'
 
 # Edits.
 mistake 'CR in the new line' "b'\\n' | b'\\r'" "b'\\n'"
-mistake '17 after the rows' 'need(!text.iter().any(ends_line), (refuse::LINE_END, 0))?;
+mistake '17 after the rows' 'need(!text.iter().any(ends_line), refused(refuse::LINE_END, 0))?;
     edit_rows' 'state_before(rows, line)?;
-    need(!text.iter().any(ends_line), (refuse::LINE_END, 0))?;
+    need(!text.iter().any(ends_line), refused(refuse::LINE_END, 0))?;
     edit_rows'
-mistake '17 before 16' 'need((1..=n).contains(&line), (refuse::LINE_NUMBER, 0))?;
+mistake '17 before 16' 'need((1..=n).contains(&line), refused(refuse::LINE_NUMBER, 0))?;
     let ends_line = |byte: &u8| matches!(byte, b'\''\n'\'' | b'\''\r'\'');' 'let ends_line = |byte: &u8| matches!(byte, b'\''\n'\'' | b'\''\r'\'');
-    need(!text.iter().any(ends_line), (refuse::LINE_END, 0))?;
-    need((1..=n).contains(&line), (refuse::LINE_NUMBER, 0))?;'
+    need(!text.iter().any(ends_line), refused(refuse::LINE_END, 0))?;
+    need((1..=n).contains(&line), refused(refuse::LINE_NUMBER, 0))?;'
 mistake 'edited row tested after the new line' 'let (_, mut old) = row_at(rows, line)?;
-    let refused = |number| (number, line as u32);
-    let command = Command::of_line(text, revision).map_err(refused)?;' 'let refused = |number| (number, line as u32);
-    let command = Command::of_line(text, revision).map_err(refused)?;
+    let at = line as u32;
+    let command =
+        Command::of_line(text, revision).map_err(|number| refused_text(number, at, text))?;' 'let at = line as u32;
+    let command =
+        Command::of_line(text, revision).map_err(|number| refused_text(number, at, text))?;
     let (_, mut old) = row_at(rows, line)?;'
 mistake 'stops at a command of the same kind' 'let mut meeting = line;' \
     'let mut meeting = line; if rows[(line - 1) * ROW] == command.numbers()[0] { old = state; }'
@@ -246,7 +277,7 @@ mistake 'own row only' 'while state != old && meeting < n' 'while false'
 mistake 'runs on to the end' 'while state != old && meeting < n' 'while meeting < n'
 mistake "row tested after its own refusal" 'let (command, old_here) = row_at(rows, meeting)?;' \
     'if let Some(command) = Command::of_numbers(rows[(meeting - 1) * ROW..][..COMMAND].try_into().unwrap()) {
-            state.after(command).map_err(|number| (number, meeting as u32))?;
+            state.after(command).map_err(|number| refused(number, meeting as u32))?;
         }
         let (command, old_here) = row_at(rows, meeting)?;'
 mistake '14 not asked' 'need(agreed || state.phase == phase::ENDED' 'need(agreed || true'
@@ -268,23 +299,23 @@ mistake 'rout starts at its own point' '(before.x, before.y)
 mistake 'tool of the row before' 'Some([kind, after.tool,' 'Some([kind, before.tool,'
 mistake "end is the row's point" 'start_x, start_y, x, y, radius])' 'start_x, start_y, after.x, after.y, radius])'
 mistake 'M16 makes a hole' 'Command::Hit { .. } => (x, y),' 'Command::Hit { .. } | Command::Up => (x, y),'
-mistake 'short block let pass without a hole' 'let lent = hole.get_mut(..HOLE).ok_or((refuse::TOO_SHORT, 0))?;
+mistake 'short block let pass without a hole' 'let lent = hole.get_mut(..HOLE).ok_or(refused(refuse::TOO_SHORT, 0))?;
     match hole_of(command, &before, &after) {' 'let made = hole_of(command, &before, &after);
     if made.is_none() { return Ok(0); }
-    let lent = hole.get_mut(..HOLE).ok_or((refuse::TOO_SHORT, 0))?;
+    let lent = hole.get_mut(..HOLE).ok_or(refused(refuse::TOO_SHORT, 0))?;
     match made {'
 mistake 'short block before the rows' 'let before = state_before(rows, line)?;
-    let (command, after)' 'need(hole.len() >= HOLE, (refuse::TOO_SHORT, 0))?;
+    let (command, after)' 'need(hole.len() >= HOLE, refused(refuse::TOO_SHORT, 0))?;
     let before = state_before(rows, line)?;
     let (command, after)'
 
 # Writing.
 mistake 'comments written' 'Command::Comment => return,' "Command::Comment => out.push(b';'),"
-mistake 'states not followed' 'need(state.after(command) == Ok(after), (refuse::TABLE, line as u32))?;' ''
+mistake 'states not followed' 'need(state.after(command) == Ok(after), refused(refuse::TABLE, line as u32))?;' ''
 mistake 'refused command written' 'need(state.after(command) == Ok(after)' 'need(state.after(command).map_or(true, |next| next == after)'
-mistake 'end not asked for in writing' 'need(state.phase == phase::ENDED, (refuse::TABLE, n as u32))?;' ''
+mistake 'end not asked for in writing' 'need(state.phase == phase::ENDED, refused(refuse::TABLE, n as u32))?;' ''
 mistake 'text without a byte to spare' 'let lent = text.get_mut(..out.len())' \
-    'need(text.len() > out.len(), (refuse::TOO_SHORT, 0))?; let lent = text.get_mut(..out.len())'
+    'need(text.len() > out.len(), refused(refuse::TOO_SHORT, 0))?; let lent = text.get_mut(..out.len())'
 mistake 'short text written in part' 'let lent = text.get_mut(..out.len())' \
     'if let (Some(first), Some(&byte)) = (text.first_mut(), out.first()) { *first = byte; }
     let lent = text.get_mut(..out.len())'

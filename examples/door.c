@@ -1,4 +1,4 @@
-/* The library from C: reads an XNC file from standard input, tries one edit, and says what moved.
+/* The library from C: reads an XNC file from standard input, tries one edit, and says what moved, or where it is refused.
  *
  *   door LINE TEXT <FILE
  *
@@ -11,13 +11,13 @@
 
 enum { MOST_BYTES = 65536, MOST_LINES = 1000, ROW = 15, HOLE = 7 };
 
-static uint32_t number(uint64_t answer) { return (uint32_t)(answer >> 32); }
-
-static uint32_t value(uint64_t answer) { return (uint32_t)answer; }
-
 static int refused(const char *what, uint64_t answer)
 {
-    printf("%s refused: number %u, line %u\n", what, (unsigned)number(answer), (unsigned)value(answer));
+    printf("%s refused: number %u, line %u", what, (unsigned)xnc_number(answer), (unsigned)xnc_value(answer));
+    if (xnc_column(answer) != 0) {
+        printf(", column %u", (unsigned)xnc_column(answer));
+    }
+    printf("\n");
     return 1;
 }
 
@@ -39,19 +39,19 @@ int main(int argc, char **argv)
     }
     size_t bytes = fread(file, 1, sizeof file, stdin);
     uint64_t answer = xnc_read(file, bytes, XNC_REVISION_2021, old, MOST_LINES * ROW);
-    if (number(answer) != 0) {
+    if (xnc_number(answer) != 0) {
         return refused("read", answer);
     }
-    size_t n = value(answer);
+    size_t n = xnc_value(answer);
     printf("lines %zu\n", n);
 
     size_t line = strtoul(argv[1], NULL, 10);
     memcpy(edited, old, sizeof old);
     answer = xnc_edit(edited, MOST_LINES * ROW, n, line, (const uint8_t *)argv[2], strlen(argv[2]), XNC_REVISION_2021);
-    if (number(answer) != 0) {
+    if (xnc_number(answer) != 0) {
         return refused("edit", answer);
     }
-    size_t meeting = value(answer);
+    size_t meeting = xnc_value(answer);
     printf("span %zu to %zu\n", line, meeting);
 
     /* Nothing outside the span can have changed. */
@@ -70,9 +70,9 @@ int main(int argc, char **argv)
     }
 
     answer = xnc_write(edited, MOST_LINES * ROW, n, text, sizeof text);
-    if (number(answer) != 0) {
+    if (xnc_number(answer) != 0) {
         return refused("write", answer);
     }
-    fwrite(text, 1, value(answer), stdout);
+    fwrite(text, 1, xnc_value(answer), stdout);
     return 0;
 }

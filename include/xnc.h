@@ -4,8 +4,13 @@
  * motion, selected tool, point x and y, four words of the declared tools). Lengths count numbers or bytes. Blocks may have any
  * length, and may be empty; a pointer is not used where its length is 0, but must not be null.
  *
- * Each function answers (number << 32) + value: number 0 is success and value the count, any other number is a refusal of document 01
- * and value its line. A refused call changes nothing that was lent. */
+ * Each function answers (number << 48) + (column << 32) + value: 16 bits of number, 16 of column, 32 of value. Number 0 is success, with
+ * column 0, and value the count. Any other number is a refusal of document 01, and value its line. So an answer is below 2^32 exactly on
+ * success. A refused call changes nothing that was lent. xnc_number, xnc_column and xnc_value take an answer apart.
+ *
+ * A column says which byte of the line is refused, counted from 1. Refusals 4 and 7 of xnc_read and xnc_edit have one, from 1 to 256: for 4
+ * the first forbidden byte, for 7 the first byte of the leftmost number that is out of range or has over six decimals, its sign included.
+ * All other answers have column 0. */
 #ifndef XNC_H
 #define XNC_H
 
@@ -19,6 +24,15 @@ extern "C" {
 /* The revision of XNC by whose rule lines are read. 2019 also takes a declaration with one digit, as T1C0.6; all else is the same by both.
  * Any other number means 2021. A table has no revision: it may be edited by either. */
 enum { XNC_REVISION_2019 = 2019, XNC_REVISION_2021 = 2021 };
+
+/* An answer's number, 0 on success. */
+static inline uint32_t xnc_number(uint64_t answer) { return (uint32_t)(answer >> 48); }
+
+/* An answer's column, from 1; 0 where it has none. */
+static inline uint32_t xnc_column(uint64_t answer) { return (uint32_t)(answer >> 32) & 0xFFFF; }
+
+/* An answer's count, or its line on refusal. */
+static inline uint32_t xnc_value(uint64_t answer) { return (uint32_t)answer; }
 
 /* Reads a file: the count is its number of lines n, and the first 15 n numbers of the table are its rows. */
 uint64_t xnc_read(const uint8_t *file, size_t file_len, uint32_t revision, int32_t *table, size_t table_len);

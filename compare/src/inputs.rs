@@ -11,6 +11,7 @@ pub const ROW: usize = 15;
 pub const MAX: i32 = 999_999_999;
 pub const MAX_LINES: usize = 1_000;
 pub const MAX_FILE: usize = 65_536;
+const MAX_LINE: usize = 256;
 const MAX_WORD: i32 = 33_554_431;
 
 // ---------------------------------------------------------------- spelling
@@ -183,7 +184,7 @@ const ODD_LINES: [&str; 10] = [
 ];
 
 pub fn odd_line(random: &mut Random) -> Vec<u8> {
-    match random.below(8) {
+    match random.below(9) {
         0 => format!("X{}Y0", "9".repeat(1 + random.below(254))).into_bytes(),
         1 => format!("X{}1.5Y0", "0".repeat(random.below(252))).into_bytes(),
         2 => {
@@ -194,6 +195,7 @@ pub fn odd_line(random: &mut Random) -> Vec<u8> {
             text[0] = *random.pick(b";;;X%");
             text
         }
+        3 => line_of_numbers(random),
         _ => {
             let lines: Vec<&str> = random.pick(&ODD_LINES).split('|').collect();
             random.pick(&lines).as_bytes().to_vec()
@@ -215,6 +217,199 @@ pub fn all_texts(alphabet: &str, length: usize) -> Vec<String> {
         start = end;
     }
     texts
+}
+
+// ----------------------------------------------------------------- columns
+
+/// Bytes that no line may hold. A CR may stand at a line's end alone.
+const FORBIDDEN: [u8; 7] = [0, 9, 13, 31, 127, 128, 255];
+
+/// Numbers that are out of range or have over six decimals; the last two are so
+/// only as sizes.
+const OUT_OF_RANGE: [&str; 10] = [
+    "1000",
+    "1000.",
+    "1000.000000",
+    "987654321",
+    "1.0000000",
+    "0.0000000",
+    ".5000000",
+    "999.9999990",
+    "0",
+    ".0",
+];
+
+/// A coordinate or a size, good or out of range, often behind many zeros.
+fn good_or_bad(signed: bool, random: &mut Random) -> String {
+    let good = if signed { coordinate(random) } else { size(random) };
+    if random.one_in(2) {
+        return spell(good, signed, random);
+    }
+    let sign = if signed { *random.pick(&["", "", "-", "+"]) } else { "" };
+    let zeros = match random.below(4) {
+        0 => random.below(MAX_LINE - 10),
+        1 => random.below(4),
+        _ => 0,
+    };
+    let bad = if signed { &OUT_OF_RANGE[..8] } else { &OUT_OF_RANGE };
+    format!("{sign}{}{}", "0".repeat(zeros), random.pick(bad))
+}
+
+/// A line of a kind that has numbers, each of them good or bad, now and then with
+/// forbidden bytes.
+fn line_of_numbers(random: &mut Random) -> Vec<u8> {
+    let tool = match random.below(3) {
+        0 => random.pick(&["0", "00"]).to_string(),
+        1 => tool(random).to_string(),
+        _ => format!("{:02}", tool(random)),
+    };
+    let point = format!("X{}Y{}", good_or_bad(true, random), good_or_bad(true, random));
+    let size = good_or_bad(false, random);
+    let mut line = match random.below(8) {
+        0 => format!("T{tool}"),
+        1 => format!("T{tool}C{size}"),
+        2 => point,
+        3 => format!("G00{point}"),
+        4 => format!("G01{point}"),
+        5 | 6 => format!("G02{point}A{size}"),
+        _ => format!("G03{point}A{size}"),
+    }
+    .into_bytes();
+    if random.one_in(4) {
+        for _ in 0..1 + random.below(2) {
+            let at = random.below(line.len() + 1);
+            line.insert(at, *random.pick(&FORBIDDEN));
+        }
+    }
+    line
+}
+
+/// Lines that are refused at many columns, and such that only just are not.
+pub fn lines_for_columns() -> Vec<Vec<u8>> {
+    let mut lines = Vec::new();
+    each_choice_of_numbers(&mut lines);
+    forbidden_in_short_lines(&mut lines);
+    forbidden_in_long_lines(&mut lines);
+    every_column(&mut lines);
+    lines
+}
+
+/// Every kind of line that has numbers, with each choice of good and bad ones,
+/// and some whose form is bad behind them.
+fn each_choice_of_numbers(lines: &mut Vec<Vec<u8>>) {
+    // In each list the good ones come first.
+    const COORDINATES: [&str; 9] =
+        ["6.0", "-2", "+008.150", "1600", "-1000", "+1000.", "0001000", "1.0000000", "-.0000000"];
+    const SIZES: [&str; 6] = ["1.0", "00.5", "0", "00.0", "1000", "0.5000000"];
+    const TOOLS: [&str; 5] = ["1", "07", "99", "0", "00"];
+
+    let mut put = |line: String| lines.push(line.into_bytes());
+    for x in COORDINATES {
+        for y in COORDINATES {
+            for command in ["", "G00", "G01"] {
+                put(format!("{command}X{x}Y{y}"));
+            }
+            put(format!("X{x}Y{y}q"));
+            put(format!("G02X{x}Y{y}A"));
+            for radius in SIZES {
+                put(format!("G02X{x}Y{y}A{radius}"));
+                put(format!("G03X{x}Y{y}A{radius}"));
+            }
+        }
+    }
+    for tool in TOOLS {
+        put(format!("T{tool}"));
+        put(format!("T{tool}C"));
+        for diameter in SIZES {
+            put(format!("T{tool}C{diameter}"));
+        }
+    }
+}
+
+/// A forbidden byte at every column of short lines, put in or in another's
+/// place, by itself and with a second one behind it.
+fn forbidden_in_short_lines(lines: &mut Vec<Vec<u8>>) {
+    const SHORT: [&str; 12] = [
+        "",
+        "; c",
+        "METRIC",
+        "%",
+        "G90",
+        "T0",
+        "T00C0",
+        "T1C1000",
+        "X1000Y-1000",
+        "X1000Yq",
+        "G00X1Y1.0000000",
+        "G03X6.0Y1600A1.0",
+    ];
+    for (line, turn) in SHORT.iter().zip(0..) {
+        for at in 0..=line.len() {
+            let byte = FORBIDDEN[(turn + at) % FORBIDDEN.len()];
+            let mut with = line.as_bytes().to_vec();
+            with.insert(at, byte);
+            for (second, other) in [(at + 1, 127), (with.len(), 0), (with.len(), b'\r')] {
+                let mut two = with.clone();
+                two.insert(second, other);
+                lines.push(two);
+            }
+            lines.push(with.clone());
+            with[at] = b'\r';
+            lines.push(with.clone());
+            if at < line.len() {
+                with.remove(at);
+                with[at] = byte;
+                lines.push(with);
+            }
+        }
+    }
+}
+
+/// Forbidden bytes at telling columns of long lines, none of them, one or two.
+fn forbidden_in_long_lines(lines: &mut Vec<Vec<u8>>) {
+    const COLUMNS: [usize; 5] = [1, 2, 128, 255, 256];
+    // A comment, good numbers, a bad one at the start, behind, at the end; no command.
+    const FRAMES: [(&str, &str, &str); 6] = [
+        (";", "c", ""),
+        ("X", "0", "1Y1"),
+        ("X1000Y", "0", "1"),
+        ("X", "0", "Y-1000"),
+        ("G02X1Y", "0", "A0"),
+        ("x", "x", ""),
+    ];
+    for length in [MAX_LINE - 1, MAX_LINE, MAX_LINE + 1] {
+        let columns: Vec<usize> = COLUMNS.into_iter().filter(|&column| column <= length).collect();
+        for (start, filler, end) in FRAMES {
+            let filling = filler.repeat(length - start.len() - end.len());
+            let line = format!("{start}{filling}{end}").into_bytes();
+            for (&first, behind) in columns.iter().zip(0..) {
+                for &second in &columns[behind..] {
+                    let mut with = line.clone();
+                    with[second - 1] = 255;
+                    with[first - 1] = 9;
+                    lines.push(with);
+                }
+            }
+            lines.push(line);
+        }
+    }
+}
+
+/// For every column a line that is refused there: for a byte, for the second
+/// number of a hit, for the radius of an arc.
+fn every_column(lines: &mut Vec<Vec<u8>>) {
+    for column in 1..=MAX_LINE {
+        let mut comment = vec![b'c'; MAX_LINE];
+        comment[0] = b';';
+        comment[column - 1] = 128;
+        lines.push(comment);
+        if (4..=MAX_LINE - 3).contains(&column) {
+            lines.push(format!("X{}Y1000", "0".repeat(column - 3)).into_bytes());
+        }
+        if column >= 9 {
+            lines.push(format!("G03X1Y{}A0", "0".repeat(column - 8)).into_bytes());
+        }
+    }
 }
 
 // ------------------------------------------------------------------- model
@@ -548,7 +743,7 @@ fn damage_line(line: &mut Vec<u8>, random: &mut Random) {
         2 => change_bytes(line, random),
         3 => {
             // A forbidden byte in the line.
-            let byte = *random.pick(&[0u8, 9, 13, 31, 127, 128, 255]);
+            let byte = *random.pick(&FORBIDDEN);
             line.insert(random.below(line.len() + 1), byte);
         }
         4 => lengthen(line, random),

@@ -2,8 +2,8 @@
 //! test. Built with `--cfg selftest` the one under test is a second copy of
 //! plain Rust (crate `subject`), so that the comparison itself can be tried.
 
-/// `(0, count)` on success, `(number, line)` on refusal.
-pub type Answer = (u32, u32);
+/// `(0, count, 0)` on success, `(number, line, column)` on refusal.
+pub type Answer = (u32, u32, u32);
 
 pub use plain::Revision;
 
@@ -40,22 +40,22 @@ pub struct Xnc;
 impl Library for Xnc {
     const NAME: &'static str = "xnc";
     fn read(file: &[u8], revision: Revision, table: &mut [i32]) -> Answer {
-        pair(xnc::read(file, named(revision), table))
+        triple(xnc::read(file, named(revision), table))
     }
     fn edit(table: &mut [i32], n: usize, line: usize, text: &[u8], revision: Revision) -> Answer {
-        pair(xnc::edit(table, n, line, text, named(revision)))
+        triple(xnc::edit(table, n, line, text, named(revision)))
     }
     fn hole(table: &[i32], n: usize, line: usize, hole: &mut [i32]) -> Answer {
-        pair(xnc::hole(table, n, line, hole))
+        triple(xnc::hole(table, n, line, hole))
     }
     fn write(table: &[i32], n: usize, text: &mut [u8]) -> Answer {
-        pair(xnc::write(table, n, text))
+        triple(xnc::write(table, n, text))
     }
 }
 
 #[cfg(not(selftest))]
-fn pair(answer: xnc::Answer) -> Answer {
-    (answer.number, answer.value)
+fn triple(answer: xnc::Answer) -> Answer {
+    (answer.number, answer.value, answer.column)
 }
 
 /// A revision as the implementation under test names it.

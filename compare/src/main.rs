@@ -7,14 +7,15 @@
 //! ```
 //!
 //! The first form makes at least COUNT comparisons of single calls, from a
-//! fixed seed unless one is given. Each compares the answer and everything
-//! lent, with numbers or bytes before and behind it. What an edit and a
-//! writing promise is held against fresh readings, in both implementations.
-//! The other two compare what a program prints for COUNT files, or edits. Each
-//! file and each edit is by one of the two revisions.
+//! fixed seed unless one is given. Each compares the answer, its column too, and
+//! everything lent, with numbers or bytes before and behind it. In both
+//! implementations, an answer must have a column just where it may, and what an
+//! edit and a writing promise is held against fresh readings. The other two
+//! forms compare what a program prints for COUNT files, or edits. Each file and
+//! each edit is by one of the two revisions.
 //!
-//! It fails when a pair differs, when a promise is broken, or when a refusal
-//! that a function can give never came up.
+//! It fails when a pair differs, when a promise is broken, when a refusal that a
+//! function can give never came up, or when 4 or 7 came up at too few columns.
 
 mod inputs;
 mod library;
@@ -23,6 +24,7 @@ mod random;
 use inputs::{File, Model, MAX_FILE, MAX_LINES, ROW};
 use library::{Answer, Library, Plain, Revision, Revision::*, Xnc};
 use random::Random;
+use std::collections::BTreeSet;
 use std::fmt::Write as _;
 use std::io::Write as _;
 use std::ops::Range;
@@ -45,6 +47,15 @@ const READ_GIVES: &[usize] = &[0, 1, 2, 3, 4, 5, 6, 7, 8, 9, 10, 11, 12, 13, 14,
 const EDIT_GIVES: &[usize] = &[0, 4, 5, 6, 7, 8, 9, 10, 11, 12, 13, 14, 16, 17, 18];
 const CAN_GIVE: [&[usize]; 6] =
     [READ_GIVES, READ_GIVES, EDIT_GIVES, EDIT_GIVES, &[0, 15, 16, 18], &[0, 15, 18]];
+
+/// The refusals that name a column, in the functions before `HOLE`, and the last
+/// column that a line has.
+const NAME_COLUMN: [u32; 2] = [4, 7];
+const MAX_COLUMN: u32 = 256;
+
+/// How many different columns must come up with each of them, in each function. A
+/// 4 can come at all 256; a 7 at all but 1 and 3, where no number begins.
+const LEAST_COLUMNS: usize = 250;
 
 /// One of the two, as the revision has it.
 fn by<T>(revision: Revision, [old, new]: [T; 2]) -> T {
@@ -91,6 +102,8 @@ impl<T: Copy + PartialEq> Lent<T> {
 struct Comparison {
     random: Random,
     came_up: [[u64; 19]; 6],
+    /// The columns that came up in each function with each of `NAME_COLUMN`.
+    columns: [[BTreeSet<u32>; 2]; HOLE],
     holes: u64,
     compared: u64,
     promises: u64,
@@ -102,6 +115,7 @@ impl Comparison {
         Comparison {
             random: Random::new(seed),
             came_up: [[0; 19]; 6],
+            columns: Default::default(),
             holes: 0,
             compared: 0,
             promises: 0,
@@ -118,7 +132,7 @@ impl Comparison {
             |lent| Plain::read(file, revision, lent),
             |lent| Xnc::read(file, revision, lent),
         );
-        let span = |(_, count): Answer| 0..count as usize * ROW;
+        let span = |(_, count, _): Answer| 0..count as usize * ROW;
         self.judge(by(revision, READ), &before, &pair, span, || {
             format!("file \"{}\"\n{} numbers lent", file.escape_ascii(), table.len())
         });
@@ -139,7 +153,7 @@ impl Comparison {
             |lent| Plain::edit(lent, n, line, text, revision),
             |lent| Xnc::edit(lent, n, line, text, revision),
         );
-        let span = |(_, meeting): Answer| (line - 1) * ROW..meeting as usize * ROW;
+        let span = |(_, meeting, _): Answer| (line - 1) * ROW..meeting as usize * ROW;
         self.judge(by(revision, EDIT), &before, &pair, span, || {
             format!("n {n}, line {line}, text \"{}\"\n{}", text.escape_ascii(), rows(table))
         });
@@ -154,11 +168,11 @@ impl Comparison {
             |lent| Plain::hole(table, n, line, lent),
             |lent| Xnc::hole(table, n, line, lent),
         );
-        let span = |(_, count): Answer| 0..count as usize * 7;
+        let span = |(_, count, _): Answer| 0..count as usize * 7;
         self.judge(HOLE, &before, &pair, span, || {
             format!("n {n}, line {line}, {length} numbers lent\n{}", rows(table))
         });
-        if pair.expected == (0, 1) {
+        if pair.expected == (0, 1, 0) {
             self.holes += 1;
         }
         pair.expected
@@ -168,7 +182,7 @@ impl Comparison {
         let before = Lent::new(&vec![b'~'; length], b'#');
         let pair =
             call(&before, |lent| Plain::write(table, n, lent), |lent| Xnc::write(table, n, lent));
-        let span = |(_, count): Answer| 0..count as usize;
+        let span = |(_, count, _): Answer| 0..count as usize;
         self.judge(WRITE, &before, &pair, span, || {
             format!("n {n}, {length} bytes lent\n{}", rows(table))
         });
@@ -176,7 +190,8 @@ impl Comparison {
     }
 
     /// Holds the pair's two sides against each other, and each against the
-    /// promise that a refusal changes nothing and success only its span.
+    /// promises that it has a column just where it may, and that a refusal changes
+    /// nothing and success only its span.
     fn judge<T: Copy + PartialEq>(
         &mut self,
         function: usize,
@@ -188,6 +203,9 @@ impl Comparison {
         let name = NAMES[function];
         self.compared += 1;
         self.came_up[function][pair.expected.0 as usize] += 1;
+        if let Some(named) = column_named(function, pair.expected) {
+            self.columns[function][named].insert(pair.expected.2);
+        }
         if pair.expected != pair.found {
             self.differs(&format!(
                 "{name}: {} answers {:?}, {} {:?}\n{}",
@@ -209,6 +227,12 @@ impl Comparison {
         let sides =
             [(Plain::NAME, pair.expected, &pair.ours), (Xnc::NAME, pair.found, &pair.theirs)];
         for (side, answer, lent) in sides {
+            if !column_fits(function, answer) {
+                self.differs(&format!(
+                    "{name}: {side} answers {answer:?}, with a column it can't have\n{}",
+                    input()
+                ));
+            }
             let span = if answer.0 == 0 { span(answer) } else { 0..0 };
             if !lent.same_outside(before, &span) {
                 self.differs(&format!("{name}: {side} changes more than it may\n{}", input()));
@@ -262,7 +286,7 @@ impl Comparison {
         self.read(&bytes, by(file.revision, [Rev2021, Rev2019]), &lent);
         self.older(&bytes);
         let (answer, mut table) = self.read(&bytes, file.revision, &lent);
-        if answer != (0, n as u32) {
+        if answer != (0, n as u32, 0) {
             self.differs(&format!("valid file answered {answer:?}: \"{}\"", bytes.escape_ascii()));
         }
         table.truncate(n * ROW);
@@ -298,7 +322,7 @@ impl Comparison {
 
     fn writes(&mut self, table: &[i32], n: usize) {
         let room = n.min(MAX_LINES) * 39;
-        let ((number, count), text) = self.write(table, n, room);
+        let ((number, count, _), text) = self.write(table, n, room);
         if number != 0 {
             self.write(table, n, 0);
             return;
@@ -550,7 +574,7 @@ impl Comparison {
     }
 
     /// The paper's own file: its edits a to l, then every text and every
-    /// number that a small set gives.
+    /// number that a small set gives, and lines for every column.
     fn bench_file(&mut self) {
         let file = file_of(
             "M48\nMETRIC\nT01C0.5\nT07C1.25\n%\nG05\nT1\nX2Y-3.5\nT07\nG00X0Y0\nM15\nG01X4Y0\n\
@@ -572,26 +596,28 @@ impl Comparison {
         for revision in BOTH {
             self.all_small_texts(&table, revision);
             self.all_tools(revision);
+            self.all_columns(&File { revision, ..file.clone() }, &table);
         }
         self.all_edges(&table);
     }
 
-    /// The paper's edits of its file, and what it says of them: the same by each
-    /// revision.
+    /// The paper's edits of its file, the one of request #106 with its column, and
+    /// what is said of them: the same by each revision.
     fn edits_a_to_l(&mut self, file: &File, table: &[i32]) {
-        let cases: [(usize, &str, Answer); 12] = [
-            (3, "T01C0.6", (0, 3)),
-            (3, "T02C0.5", (10, 7)),
-            (2, "INCH", (0, 15)),
-            (6, ";", (12, 8)),
-            (8, "X2Y3", (0, 8)),
-            (9, ";", (0, 15)),
-            (12, "G01X4Y1", (0, 13)),
-            (13, "G03X8Y0A2", (0, 15)),
-            (13, "G03X8Y0A1.9", (13, 13)),
-            (15, ";", (14, 16)),
-            (11, "M30", (8, 12)),
-            (12, "G01X4Y0", (0, 12)),
+        let cases: [(usize, &str, Answer); 13] = [
+            (3, "T01C0.6", (0, 3, 0)),
+            (3, "T02C0.5", (10, 7, 0)),
+            (2, "INCH", (0, 15, 0)),
+            (6, ";", (12, 8, 0)),
+            (8, "X2Y3", (0, 8, 0)),
+            (9, ";", (0, 15, 0)),
+            (12, "G01X4Y1", (0, 13, 0)),
+            (13, "G03X8Y0A2", (0, 15, 0)),
+            (13, "G03X8Y0A1.9", (13, 13, 0)),
+            (15, ";", (14, 16, 0)),
+            (11, "M30", (8, 12, 0)),
+            (12, "G01X4Y0", (0, 12, 0)),
+            (13, "G03X6.0Y1600A1.0", (7, 13, 9)),
         ];
         for (line, text, expected) in cases {
             let (answer, _) = self.edit(table, 15, line, text.as_bytes(), file.revision);
@@ -618,6 +644,31 @@ impl Comparison {
             ];
             for (line, text) in texts {
                 self.edit(table, 15, line, text.as_bytes(), revision);
+            }
+        }
+    }
+
+    /// Lines that are refused at many columns, each as an edit and as a line of the
+    /// file; of some also with another end, and with another such line.
+    fn all_columns(&mut self, file: &File, table: &[i32]) {
+        const ENDS: [&[u8]; 3] = [b"\n", b"\r\n", b"\r\r\n"];
+        let texts = inputs::lines_for_columns();
+        let lent = self.noise(15 * ROW);
+        for text in &texts {
+            let line = match self.random.below(8) {
+                0 => 1 + self.random.below(15),
+                _ => line_for(text),
+            };
+            self.edit(table, 15, line, text, file.revision);
+            self.demand_3(file, line, text);
+            let mut changed = file.clone();
+            changed.lines[line - 1] = text.clone();
+            self.read(&changed.bytes(), file.revision, &lent);
+            if self.random.one_in(3) {
+                changed.ends[line - 1] = *self.random.pick(&ENDS);
+                let other = self.random.below(15);
+                changed.lines[other] = self.random.pick(&texts).clone();
+                self.read(&changed.bytes(), file.revision, &lent);
             }
         }
     }
@@ -658,7 +709,8 @@ impl Comparison {
 
     // -------------------------------------------------------------- report
 
-    /// Prints how often each number came up; whether each one did.
+    /// Prints how often each number came up, and at how many columns; whether each
+    /// one did, and at enough.
     fn report(&self) -> bool {
         let mut complete = true;
         for (function, numbers) in CAN_GIVE.iter().enumerate() {
@@ -673,8 +725,36 @@ impl Comparison {
             }
             println!("{line}");
         }
+        for (function, sets) in self.columns.iter().enumerate() {
+            let mut line = format!("{:9}  columns", NAMES[function]);
+            for (number, set) in NAME_COLUMN.iter().zip(sets) {
+                let _ = write!(line, "  of {number}: {}", set.len());
+                if set.len() < LEAST_COLUMNS {
+                    complete = false;
+                    line.push_str(" (too few)");
+                }
+            }
+            println!("{line}");
+        }
         println!("holes found {}, promises checked {}", self.holes, self.promises);
         complete
+    }
+}
+
+// ----------------------------------------------------------------- columns
+
+/// Which of `NAME_COLUMN` a function's answer is, if it is one.
+fn column_named(function: usize, (number, _, _): Answer) -> Option<usize> {
+    let named = NAME_COLUMN.iter().position(|&name| name == number);
+    named.filter(|_| function < HOLE)
+}
+
+/// Whether a function's answer has a column from 1 on where it names one, and 0
+/// where it doesn't.
+fn column_fits(function: usize, answer: Answer) -> bool {
+    match column_named(function, answer) {
+        Some(_) => (1..=MAX_COLUMN).contains(&answer.2),
+        None => answer.2 == 0,
     }
 }
 
@@ -705,6 +785,19 @@ fn file_of(text: &str) -> File {
     let lines: Vec<Vec<u8>> = text.split('\n').map(|line| line.as_bytes().to_vec()).collect();
     let ends = vec![&b"\n"[..]; lines.len()];
     File { lines, ends, revision: Rev2021 }
+}
+
+/// A line of the paper's file where a command that begins as `text` may come.
+fn line_for(text: &[u8]) -> usize {
+    match text {
+        [b'T', ..] if text.contains(&b'C') => 3,
+        [b'T', ..] => 7,
+        [b'X', ..] => 8,
+        [b'G', b'0', b'0', ..] => 10,
+        [b'G', b'0', b'1', ..] => 12,
+        [b'G', b'0', b'2' | b'3', ..] => 13,
+        _ => 6,
+    }
 }
 
 fn model_before(table: &[i32], line: usize, revision: Revision) -> Model {
@@ -779,15 +872,15 @@ fn edit_is_reading<L: Library>(file: &File, line: usize, text: &[u8]) -> Result<
     let mut fresh = old.clone();
     let reading = L::read(&changed, file.revision, &mut fresh);
 
-    let fault = if first != (0, n as u32) {
+    let fault = if first != (0, n as u32, 0) {
         Some("the file isn't read")
     } else if text.contains(&b'\n') || text.contains(&b'\r') {
-        (answer != (17, 0) || edited != old).then_some("a line's end in the text")
+        (answer != (17, 0, 0) || edited != old).then_some("a line's end in the text")
     } else if edited != fresh {
         Some("the tables differ")
     } else if answer.0 != 0 {
         (answer != reading || edited != old).then_some("the refusals differ")
-    } else if reading != (0, n as u32) {
+    } else if reading != (0, n as u32, 0) {
         Some("the verdicts differ")
     } else {
         span_fault(&old, &edited, n, line, answer.1 as usize)
@@ -835,7 +928,7 @@ fn written_reads_back<L: Library>(table: &[i32], n: usize) -> Result<(), String>
     for revision in BOTH {
         let mut again = vec![-5; kept.len()];
         let read = L::read(&text[..length], revision, &mut again);
-        if read != (0, (kept.len() / ROW) as u32) || again != kept {
+        if read != (0, (kept.len() / ROW) as u32, 0) || again != kept {
             return say("the text reads otherwise");
         }
     }
@@ -911,7 +1004,7 @@ fn moves_input(case: u64, random: &mut Random) -> (Vec<u8>, Revision) {
     let file = inputs::valid_file(lines, random);
     let bytes = if random.below(10) == 0 { inputs::damaged(&file, random) } else { file.bytes() };
     let mut table = vec![0; ROW * MAX_LINES];
-    let (number, n) = plain::read(&bytes, file.revision, &mut table);
+    let (number, n, _) = plain::read(&bytes, file.revision, &mut table);
     let n = if number == 0 { n as usize } else { lines };
     let line = match random.below(20) {
         0 => [0, n + 1, 9999, 10000][random.below(4)],

@@ -194,7 +194,7 @@ impl Bench {
         let file = job.body.file(job.lines);
         let mut table = vec![0; job.lines * ROW];
         let answer = Plain::read(&file, Rev2021, &mut table);
-        assert_eq!(answer, (0, job.lines as u32), "{}", job.name());
+        assert_eq!(answer, (0, job.lines as u32, 0), "{}", job.name());
         let text = vec![0; file.len() + job.lines];
         Bench { file, table, text, hole: [0; 7] }
     }
@@ -227,7 +227,7 @@ impl Bench {
                     let text = texts[(turn % 2) as usize];
                     let answer =
                         L::edit(black_box(&mut self.table), n, line, black_box(text), Rev2021);
-                    assert_eq!(answer, (0, meeting), "{}", job.name());
+                    assert_eq!(answer, (0, meeting, 0), "{}", job.name());
                 }
                 // An even number of edits leaves the table as it was.
                 if times % 2 == 1 {

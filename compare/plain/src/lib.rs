@@ -2,8 +2,12 @@
 //! writer and a print-out, written from the format's papers alone.
 //!
 //! It shares no code, table or generated data with the library it is compared
-//! with. Every function answers a pair: on success `(0, count)`, on refusal
-//! `(number, line)` with everything lent left as it was. No input panics.
+//! with. Every function answers a triple: on success `(0, count, 0)`, on refusal
+//! `(number, line, column)` with everything lent left as it was. No input panics.
+//!
+//! Refusals 4 and 7 of a line name a column, counted in bytes from 1: for 4 the
+//! first forbidden byte, for 7 the first byte of the leftmost number that 7
+//! refuses, its sign included. All others name column 0.
 
 #[cfg(test)]
 mod tests;
@@ -72,14 +76,22 @@ mod unit {
     pub const INCH: i32 = 2;
 }
 
-/// A refusal: its number and its line.
-type Refusal = (u32, u32);
+/// On success 0, a count and 0; on refusal its number, its line and its column.
+pub type Answer = (u32, u32, u32);
 
-fn answer(result: Result<u32, Refusal>) -> (u32, u32) {
+/// A refusal: its number, its line and its column.
+type Refusal = (u32, u32, u32);
+
+fn answer(result: Result<u32, Refusal>) -> Answer {
     match result {
-        Ok(count) => (0, count),
+        Ok(count) => (0, count, 0),
         Err(refusal) => refusal,
     }
+}
+
+/// A refusal that names no column.
+fn refused(number: u32, line: u32) -> Refusal {
+    (number, line, 0)
 }
 
 fn need<E>(holds: bool, otherwise: E) -> Result<(), E> {
@@ -175,7 +187,7 @@ impl Command {
     /// The command of one line without its end, or the refusal's number.
     fn of_line(line: &[u8], revision: Revision) -> Result<Command, u32> {
         need(line.len() <= MAX_LINE, refuse::LINE_SIZE)?;
-        need(line.iter().all(|byte| (32..=126).contains(byte)), refuse::BYTE)?;
+        need(line.iter().all(is_allowed), refuse::BYTE)?;
         match line {
             [b'X', ..] => {
                 let (x, y) = point(line)?;
@@ -265,6 +277,10 @@ impl Command {
     }
 }
 
+fn is_allowed(byte: &u8) -> bool {
+    (32..=126).contains(byte)
+}
+
 /// `X#Y#` at the front of `text`, its numbers' ranges not yet looked at.
 type LoosePoint<'a> = (Option<i32>, Option<i32>, &'a [u8]);
 
@@ -330,6 +346,34 @@ fn declaration(tool: i32, rest: &[u8]) -> Result<Command, u32> {
     need(tool >= 1, refuse::RANGE)?;
     let diameter = diameter.ok_or(refuse::RANGE)?;
     Ok(Command::Declare { tool, diameter })
+}
+
+// ---------------------------------------------------------------- columns
+
+/// The refusal of a line for its text. Its column is sought only here, by
+/// looking at the text again, so that a line that is read pays nothing for it.
+#[cold]
+fn refused_text(number: u32, line: u32, text: &[u8]) -> Refusal {
+    let index = match number {
+        refuse::BYTE => text.iter().position(|byte| !is_allowed(byte)),
+        refuse::RANGE => out_of_range(text),
+        _ => None,
+    };
+    (number, line, index.map_or(0, |index| index as u32 + 1))
+}
+
+/// Where the leftmost number that is refused for its range begins, in a text
+/// that was. Its form is good: behind each of these letters is its number.
+fn out_of_range(text: &[u8]) -> Option<usize> {
+    (1..text.len()).find(|&start| {
+        let number = &text[start..];
+        match text[start - 1] {
+            b'T' => matches!(number, [b'0'] | [b'0', b'0' | b'C', ..]),
+            b'X' | b'Y' => !matches!(coordinate(number), Some((Some(_), _))),
+            b'C' | b'A' => !matches!(magnitude(number), Some((Some(1..), _))),
+            _ => false,
+        }
+    })
 }
 
 // ------------------------------------------------------------------ state
@@ -496,13 +540,13 @@ fn decode(row: &[i32]) -> Option<(Command, State)> {
 /// The numbers of the first `n` rows, if `n` is 1 to 1,000 and they are there.
 fn numbers_of(table: &[i32], n: usize) -> Result<usize, Refusal> {
     let numbers = n.min(MAX_LINES) * ROW;
-    need((1..=MAX_LINES).contains(&n) && numbers <= table.len(), (refuse::TABLE, 0))?;
+    need((1..=MAX_LINES).contains(&n) && numbers <= table.len(), refused(refuse::TABLE, 0))?;
     Ok(numbers)
 }
 
 /// Row `line`, counted from 1, or the refusal of a row that fails its test.
 fn row_at(rows: &[i32], line: usize) -> Result<(Command, State), Refusal> {
-    decode(&rows[(line - 1) * ROW..line * ROW]).ok_or((refuse::TABLE, line as u32))
+    decode(&rows[(line - 1) * ROW..line * ROW]).ok_or(refused(refuse::TABLE, line as u32))
 }
 
 /// The state before `line`: that of the row before, which must pass its test.
@@ -516,20 +560,20 @@ fn state_before(rows: &[i32], line: usize) -> Result<State, Refusal> {
 // ---------------------------------------------------------------- reading
 
 /// Reads `file` into `table`. Success counts the lines.
-pub fn read(file: &[u8], revision: Revision, table: &mut [i32]) -> (u32, u32) {
+pub fn read(file: &[u8], revision: Revision, table: &mut [i32]) -> Answer {
     answer(try_read(file, revision, table))
 }
 
 fn try_read(file: &[u8], revision: Revision, table: &mut [i32]) -> Result<u32, Refusal> {
     let rows = rows_of(file, revision)?;
-    let lent = table.get_mut(..rows.len()).ok_or((refuse::TOO_SHORT, 0))?;
+    let lent = table.get_mut(..rows.len()).ok_or(refused(refuse::TOO_SHORT, 0))?;
     lent.copy_from_slice(&rows);
     Ok((rows.len() / ROW) as u32)
 }
 
 /// All rows of `file`, one after the other.
 fn rows_of(file: &[u8], revision: Revision) -> Result<Vec<i32>, Refusal> {
-    need(file.len() <= MAX_FILE, (refuse::FILE_SIZE, 0))?;
+    need(file.len() <= MAX_FILE, refused(refuse::FILE_SIZE, 0))?;
     // No line that is read takes fewer than two bytes.
     let mut rows = Vec::with_capacity((file.len() / 2).min(MAX_LINES) * ROW);
     let mut state = State::default();
@@ -537,17 +581,19 @@ fn rows_of(file: &[u8], revision: Revision) -> Result<Vec<i32>, Refusal> {
     let mut rest = file;
     while !rest.is_empty() {
         line += 1;
-        need(line as usize <= MAX_LINES, (refuse::LINE_COUNT, line))?;
-        let end = rest.iter().position(|&byte| byte == b'\n').ok_or((refuse::NOT_ENDED, line))?;
+        need(line as usize <= MAX_LINES, refused(refuse::LINE_COUNT, line))?;
+        let end =
+            rest.iter().position(|&byte| byte == b'\n').ok_or(refused(refuse::NOT_ENDED, line))?;
         let text = &rest[..end];
         let text = text.strip_suffix(b"\r").unwrap_or(text);
-        let command = Command::of_line(text, revision).map_err(|number| (number, line))?;
-        state = state.after(command).map_err(|number| (number, line))?;
+        let command =
+            Command::of_line(text, revision).map_err(|number| refused_text(number, line, text))?;
+        state = state.after(command).map_err(|number| refused(number, line))?;
         rows.extend(command.numbers());
         rows.extend(state.numbers());
         rest = &rest[end + 1..];
     }
-    need(state.phase == phase::ENDED, (refuse::UNFINISHED, line + 1))?;
+    need(state.phase == phase::ENDED, refused(refuse::UNFINISHED, line + 1))?;
     Ok(rows)
 }
 
@@ -556,13 +602,7 @@ fn rows_of(file: &[u8], revision: Revision) -> Result<Vec<i32>, Refusal> {
 /// Puts `text` in the place of one line. Success counts the meeting line.
 ///
 /// Only `text` is read by `revision`; the table may stem from the other.
-pub fn edit(
-    table: &mut [i32],
-    n: usize,
-    line: usize,
-    text: &[u8],
-    revision: Revision,
-) -> (u32, u32) {
+pub fn edit(table: &mut [i32], n: usize, line: usize, text: &[u8], revision: Revision) -> Answer {
     answer(try_edit(table, n, line, text, revision))
 }
 
@@ -575,9 +615,9 @@ fn try_edit(
 ) -> Result<u32, Refusal> {
     let numbers = numbers_of(table, n)?;
     let rows = &mut table[..numbers];
-    need((1..=n).contains(&line), (refuse::LINE_NUMBER, 0))?;
+    need((1..=n).contains(&line), refused(refuse::LINE_NUMBER, 0))?;
     let ends_line = |byte: &u8| matches!(byte, b'\n' | b'\r');
-    need(!text.iter().any(ends_line), (refuse::LINE_END, 0))?;
+    need(!text.iter().any(ends_line), refused(refuse::LINE_END, 0))?;
     edit_rows(rows, line, text, revision)
 }
 
@@ -591,9 +631,10 @@ fn edit_rows(
     let n = rows.len() / ROW;
     let before = state_before(rows, line)?;
     let (_, mut old) = row_at(rows, line)?;
-    let refused = |number| (number, line as u32);
-    let command = Command::of_line(text, revision).map_err(refused)?;
-    let mut state = before.after(command).map_err(refused)?;
+    let at = line as u32;
+    let command =
+        Command::of_line(text, revision).map_err(|number| refused_text(number, at, text))?;
+    let mut state = before.after(command).map_err(|number| refused(number, at))?;
 
     // The new states of the span, kept apart until nothing can refuse.
     let mut span = vec![state];
@@ -601,12 +642,12 @@ fn edit_rows(
     while state != old && meeting < n {
         meeting += 1;
         let (command, old_here) = row_at(rows, meeting)?;
-        state = state.after(command).map_err(|number| (number, meeting as u32))?;
+        state = state.after(command).map_err(|number| refused(number, meeting as u32))?;
         old = old_here;
         span.push(state);
     }
     let agreed = state == old;
-    need(agreed || state.phase == phase::ENDED, (refuse::UNFINISHED, n as u32 + 1))?;
+    need(agreed || state.phase == phase::ENDED, refused(refuse::UNFINISHED, n as u32 + 1))?;
 
     let edited = &mut rows[(line - 1) * ROW..];
     edited[..COMMAND].copy_from_slice(&command.numbers());
@@ -636,16 +677,16 @@ fn hole_of(command: Command, before: &State, after: &State) -> Option<[i32; HOLE
 ///
 /// A block under seven numbers is refused 15 at line 0, after all other
 /// refusals, whether or not the line makes a hole.
-pub fn hole(table: &[i32], n: usize, line: usize, hole: &mut [i32]) -> (u32, u32) {
+pub fn hole(table: &[i32], n: usize, line: usize, hole: &mut [i32]) -> Answer {
     answer(try_hole(table, n, line, hole))
 }
 
 fn try_hole(table: &[i32], n: usize, line: usize, hole: &mut [i32]) -> Result<u32, Refusal> {
     let rows = &table[..numbers_of(table, n)?];
-    need((1..=n).contains(&line), (refuse::LINE_NUMBER, 0))?;
+    need((1..=n).contains(&line), refused(refuse::LINE_NUMBER, 0))?;
     let before = state_before(rows, line)?;
     let (command, after) = row_at(rows, line)?;
-    let lent = hole.get_mut(..HOLE).ok_or((refuse::TOO_SHORT, 0))?;
+    let lent = hole.get_mut(..HOLE).ok_or(refused(refuse::TOO_SHORT, 0))?;
     match hole_of(command, &before, &after) {
         Some(numbers) => {
             lent.copy_from_slice(&numbers);
@@ -660,13 +701,13 @@ fn try_hole(table: &[i32], n: usize, line: usize, hole: &mut [i32]) -> Result<u3
 /// Refused 18 at line 0 for the sizes, 7 at line 0 for a tool not 1 to 99,
 /// then 18 at the first row that fails its test before the declaration is
 /// met, 10 at line 0 if no row declares the tool.
-pub fn diameter(table: &[i32], n: usize, tool: u32) -> (u32, u32) {
+pub fn diameter(table: &[i32], n: usize, tool: u32) -> Answer {
     answer(try_diameter(table, n, tool))
 }
 
 fn try_diameter(table: &[i32], n: usize, wanted: u32) -> Result<u32, Refusal> {
     let rows = &table[..numbers_of(table, n)?];
-    need((1..=MAX_TOOL as u32).contains(&wanted), (refuse::RANGE, 0))?;
+    need((1..=MAX_TOOL as u32).contains(&wanted), refused(refuse::RANGE, 0))?;
     for line in 1..=n {
         match row_at(rows, line)? {
             (Command::Declare { tool, diameter }, _) if tool as u32 == wanted => {
@@ -675,13 +716,13 @@ fn try_diameter(table: &[i32], n: usize, wanted: u32) -> Result<u32, Refusal> {
             _ => {}
         }
     }
-    Err((refuse::NOT_DECLARED, 0))
+    Err(refused(refuse::NOT_DECLARED, 0))
 }
 
 // ---------------------------------------------------------------- writing
 
 /// Writes a good table as text. Success counts the bytes.
-pub fn write(table: &[i32], n: usize, text: &mut [u8]) -> (u32, u32) {
+pub fn write(table: &[i32], n: usize, text: &mut [u8]) -> Answer {
     answer(try_write(table, n, text))
 }
 
@@ -691,12 +732,12 @@ fn try_write(table: &[i32], n: usize, text: &mut [u8]) -> Result<u32, Refusal> {
     let mut state = State::default();
     for line in 1..=n {
         let (command, after) = row_at(rows, line)?;
-        need(state.after(command) == Ok(after), (refuse::TABLE, line as u32))?;
+        need(state.after(command) == Ok(after), refused(refuse::TABLE, line as u32))?;
         put_command(&mut out, command);
         state = after;
     }
-    need(state.phase == phase::ENDED, (refuse::TABLE, n as u32))?;
-    let lent = text.get_mut(..out.len()).ok_or((refuse::TOO_SHORT, 0))?;
+    need(state.phase == phase::ENDED, refused(refuse::TABLE, n as u32))?;
+    let lent = text.get_mut(..out.len()).ok_or(refused(refuse::TOO_SHORT, 0))?;
     lent.copy_from_slice(&out);
     Ok(out.len() as u32)
 }
@@ -785,8 +826,12 @@ fn put_number(out: &mut Vec<u8>, letter: u8, value: i32) {
 pub fn print(file: &[u8], revision: Revision) -> Vec<u8> {
     match rows_of(file, revision) {
         Ok(rows) => holes_printed(&rows),
-        Err((number, line)) => format!("refused\t{number}\t{line}\n").into_bytes(),
+        Err(refusal) => refusal_printed(refusal),
     }
+}
+
+fn refusal_printed((number, line, column): Refusal) -> Vec<u8> {
+    format!("refused\t{number}\t{line}\t{column}\n").into_bytes()
 }
 
 /// What rows say of a board: each line's state and hole, and each tool's
@@ -864,7 +909,7 @@ pub fn print_moves(input: &[u8], revision: Revision) -> Vec<u8> {
     };
     match moves_printed(first.strip_suffix(b"\r").unwrap_or(first), file, revision) {
         Ok(out) => out,
-        Err((number, line)) => format!("refused\t{number}\t{line}\n").into_bytes(),
+        Err(refusal) => refusal_printed(refusal),
     }
 }
 
@@ -873,8 +918,8 @@ fn moves_printed(first: &[u8], file: &[u8], revision: Revision) -> Result<Vec<u8
     let lines = old.states.len();
     let (line, text) = asked(first)
         .filter(|(line, _)| (1..=lines).contains(line))
-        .ok_or((refuse::LINE_NUMBER, 0))?;
-    need(!text.contains(&b'\r'), (refuse::LINE_END, 0))?;
+        .ok_or(refused(refuse::LINE_NUMBER, 0))?;
+    need(!text.contains(&b'\r'), refused(refuse::LINE_END, 0))?;
     let new = Board::of(&rows_of(&with_line(file, line, text), revision)?);
 
     let agree = |line: usize| old.states[line - 1] == new.states[line - 1];

@@ -9,11 +9,11 @@ const PATTERN: i32 = -77;
 
 const BOTH: [Revision; 2] = [Rev2019, Rev2021];
 
-fn verdict(file: &[u8]) -> (u32, u32) {
+fn verdict(file: &[u8]) -> Answer {
     verdict_by(Rev2021, file)
 }
 
-fn verdict_by(revision: Revision, file: &[u8]) -> (u32, u32) {
+fn verdict_by(revision: Revision, file: &[u8]) -> Answer {
     let mut table = vec![PATTERN; ROW * (MAX_LINES + 1)];
     let answer = read(file, revision, &mut table);
     let untouched = if answer.0 == 0 { answer.1 as usize * ROW } else { 0 };
@@ -22,26 +22,26 @@ fn verdict_by(revision: Revision, file: &[u8]) -> (u32, u32) {
 }
 
 /// The verdict on one body line, at line 7 of a file that is ended by M30.
-fn body(line: &str) -> (u32, u32) {
+fn body(line: &str) -> Answer {
     body_by(Rev2021, line)
 }
 
-fn body_by(revision: Revision, line: &str) -> (u32, u32) {
+fn body_by(revision: Revision, line: &str) -> Answer {
     let file = format!("M48\nMETRIC\nT01C1\n%\nT01\nG05\n{line}\nM30\n");
     verdict_by(revision, file.as_bytes())
 }
 
 /// The verdict on one routing line with the tool down at 0, 0.
-fn rout(line: &str) -> (u32, u32) {
+fn rout(line: &str) -> Answer {
     verdict(format!("M48\nMETRIC\nT01C1\n%\nT01\nG00X0Y0\nM15\n{line}\nM16\nM30\n").as_bytes())
 }
 
 /// The verdict on one header line, at line 3.
-fn header(line: &str) -> (u32, u32) {
+fn header(line: &str) -> Answer {
     header_by(Rev2021, line)
 }
 
-fn header_by(revision: Revision, line: &str) -> (u32, u32) {
+fn header_by(revision: Revision, line: &str) -> Answer {
     verdict_by(revision, format!("M48\nINCH\n{line}\n%\nM30\n").as_bytes())
 }
 
@@ -51,7 +51,7 @@ fn table_of(file: &str) -> Vec<i32> {
 
 fn table_by(revision: Revision, file: &str) -> Vec<i32> {
     let mut table = vec![0; ROW * file.lines().count()];
-    assert_eq!(read(file.as_bytes(), revision, &mut table), (0, file.lines().count() as u32));
+    assert_eq!(read(file.as_bytes(), revision, &mut table), (0, file.lines().count() as u32, 0));
     table
 }
 
@@ -72,11 +72,11 @@ fn replaced(line: usize, text: &str) -> String {
 
 /// Edits the bench file's table and holds the result against a fresh reading
 /// of the edited file, with numbers beyond the table lent as well.
-fn edited(line: usize, text: &str) -> (u32, u32) {
+fn edited(line: usize, text: &str) -> Answer {
     edited_by(Rev2021, line, text)
 }
 
-fn edited_by(revision: Revision, line: usize, text: &str) -> (u32, u32) {
+fn edited_by(revision: Revision, line: usize, text: &str) -> Answer {
     let mut table = bench();
     table.extend([PATTERN; 20]);
     let mut fresh = table.clone();
@@ -89,7 +89,7 @@ fn edited_by(revision: Revision, line: usize, text: &str) -> (u32, u32) {
         assert_eq!(table, before);
         return answer;
     }
-    assert_eq!(read_answer, (0, BENCH_LINES as u32));
+    assert_eq!(read_answer, (0, BENCH_LINES as u32, 0));
     let meeting = (line..=BENCH_LINES)
         .find(|&at| row(&table, at)[COMMAND..] == row(&before, at)[COMMAND..])
         .unwrap_or(BENCH_LINES);
@@ -131,25 +131,25 @@ fn bench_file_reads_to_its_rows() {
 fn bench_file_is_written_with_two_digit_tools() {
     let expected = BENCH.replace("\nT1\n", "\nT01\n");
     let mut text = vec![b'~'; expected.len() + 3];
-    assert_eq!(write(&bench(), BENCH_LINES, &mut text), (0, expected.len() as u32));
+    assert_eq!(write(&bench(), BENCH_LINES, &mut text), (0, expected.len() as u32, 0));
     assert_eq!(text, (expected + "~~~").into_bytes());
 }
 
 #[test]
 fn edits_a_to_l() {
-    let cases: [(char, usize, &str, (u32, u32)); 12] = [
-        ('a', 3, "T01C0.6", (0, 3)),
-        ('b', 3, "T02C0.5", (10, 7)),
-        ('c', 2, "INCH", (0, 15)),
-        ('d', 6, ";", (12, 8)),
-        ('e', 8, "X2Y3", (0, 8)),
-        ('f', 9, ";", (0, 15)),
-        ('g', 12, "G01X4Y1", (0, 13)),
-        ('h', 13, "G03X8Y0A2", (0, 15)),
-        ('i', 13, "G03X8Y0A1.9", (13, 13)),
-        ('j', 15, ";", (14, 16)),
-        ('k', 11, "M30", (8, 12)),
-        ('l', 12, "G01X4Y0", (0, 12)),
+    let cases: [(char, usize, &str, Answer); 12] = [
+        ('a', 3, "T01C0.6", (0, 3, 0)),
+        ('b', 3, "T02C0.5", (10, 7, 0)),
+        ('c', 2, "INCH", (0, 15, 0)),
+        ('d', 6, ";", (12, 8, 0)),
+        ('e', 8, "X2Y3", (0, 8, 0)),
+        ('f', 9, ";", (0, 15, 0)),
+        ('g', 12, "G01X4Y1", (0, 13, 0)),
+        ('h', 13, "G03X8Y0A2", (0, 15, 0)),
+        ('i', 13, "G03X8Y0A1.9", (13, 13, 0)),
+        ('j', 15, ";", (14, 16, 0)),
+        ('k', 11, "M30", (8, 12, 0)),
+        ('l', 12, "G01X4Y0", (0, 12, 0)),
     ];
     for (case, line, text, expected) in cases {
         for revision in BOTH {
@@ -161,11 +161,11 @@ fn edits_a_to_l() {
 #[test]
 fn case_f_routs_with_tool_1() {
     let mut table = bench();
-    assert_eq!(edit(&mut table, BENCH_LINES, 9, b";", Rev2021), (0, 15));
+    assert_eq!(edit(&mut table, BENCH_LINES, 9, b";", Rev2021), (0, 15, 0));
     let mut found = [0; 7];
-    assert_eq!(hole(&table, BENCH_LINES, 12, &mut found), (0, 1));
+    assert_eq!(hole(&table, BENCH_LINES, 12, &mut found), (0, 1, 0));
     assert_eq!(found, [12, 1, 0, 0, 4_000_000, 0, 0]);
-    assert_eq!(hole(&table, BENCH_LINES, 13, &mut found), (0, 1));
+    assert_eq!(hole(&table, BENCH_LINES, 13, &mut found), (0, 1, 0));
     assert_eq!(found, [14, 1, 4_000_000, 0, 6_000_000, 2_000_000, 2_000_000]);
 }
 
@@ -173,37 +173,37 @@ fn case_f_routs_with_tool_1() {
 
 #[test]
 fn empty_file_ends_before_line_1() {
-    assert_eq!(verdict(b""), (14, 1));
+    assert_eq!(verdict(b""), (14, 1, 0));
 }
 
 #[test]
 fn largest_number_is_read_and_the_next_refused() {
     assert_eq!(body("X999.999999Y-999.999999").0, 0);
-    assert_eq!(body("X1000Y0"), (7, 7));
-    assert_eq!(body("X0Y-1000"), (7, 7));
-    assert_eq!(body("X1.0000000Y0"), (7, 7));
+    assert_eq!(body("X1000Y0"), (7, 7, 2));
+    assert_eq!(body("X0Y-1000"), (7, 7, 4));
+    assert_eq!(body("X1.0000000Y0"), (7, 7, 2));
 }
 
 #[test]
 fn tool_numbers() {
-    assert_eq!(header("T1C0.6"), (5, 3));
-    assert_eq!(body("T00"), (7, 7));
-    assert_eq!(body("T0"), (7, 7));
-    assert_eq!(header("T00C1"), (7, 3));
-    assert_eq!(header("T0C1"), (5, 3));
-    assert_eq!(body("T100"), (5, 7));
-    assert_eq!(body("T001"), (5, 7));
-    assert_eq!(header("T100C1"), (5, 3));
-    assert_eq!(header("T00C"), (5, 3));
+    assert_eq!(header("T1C0.6"), (5, 3, 0));
+    assert_eq!(body("T00"), (7, 7, 2));
+    assert_eq!(body("T0"), (7, 7, 2));
+    assert_eq!(header("T00C1"), (7, 3, 2));
+    assert_eq!(header("T0C1"), (5, 3, 0));
+    assert_eq!(body("T100"), (5, 7, 0));
+    assert_eq!(body("T001"), (5, 7, 0));
+    assert_eq!(header("T100C1"), (5, 3, 0));
+    assert_eq!(header("T00C"), (5, 3, 0));
 }
 
 #[test]
 fn comment_of_255_is_read_and_of_256_refused() {
     let comment = |length| format!(";{}", "c".repeat(length));
     assert_eq!(body(&comment(255)).0, 0);
-    assert_eq!(body(&comment(256)), (6, 7));
+    assert_eq!(body(&comment(256)), (6, 7, 0));
     assert_eq!(body(&(comment(255) + "\r")).0, 0);
-    assert_eq!(body(&(comment(255) + "\r\r")), (6, 7));
+    assert_eq!(body(&(comment(255) + "\r\r")), (6, 7, 0));
 }
 
 /// Section 2.8's example.
@@ -249,41 +249,41 @@ fn reading_refuses_by_file_and_line_sizes() {
     assert_eq!(file.len(), MAX_FILE);
     assert_eq!(verdict(&file).0, 0);
     file.push(b'\n');
-    assert_eq!(verdict(&file), (1, 0));
-    assert_eq!(print(&file, Rev2021), b"refused\t1\t0\n");
+    assert_eq!(verdict(&file), (1, 0, 0));
+    assert_eq!(print(&file, Rev2021), b"refused\t1\t0\t0\n");
 
     let lines = |comments: usize| format!("M48\nMETRIC\n%\n{}M30\n", ";\n".repeat(comments));
-    assert_eq!(verdict(lines(996).as_bytes()), (0, 1_000));
-    assert_eq!(verdict(lines(997).as_bytes()), (2, 1_001));
-    assert_eq!(verdict((lines(996) + "?").as_bytes()), (2, 1_001));
-    assert_eq!(verdict(lines(997).replace("M30\n", "").as_bytes()), (14, 1_001));
-    assert_eq!(verdict((lines(998).replace('%', "%%")).as_bytes()), (5, 3));
+    assert_eq!(verdict(lines(996).as_bytes()), (0, 1_000, 0));
+    assert_eq!(verdict(lines(997).as_bytes()), (2, 1_001, 0));
+    assert_eq!(verdict((lines(996) + "?").as_bytes()), (2, 1_001, 0));
+    assert_eq!(verdict(lines(997).replace("M30\n", "").as_bytes()), (14, 1_001, 0));
+    assert_eq!(verdict((lines(998).replace('%', "%%")).as_bytes()), (5, 3, 0));
 }
 
 #[test]
 fn reading_refuses_an_unended_line_whatever_it_holds() {
-    assert_eq!(verdict(b"M48"), (3, 1));
-    assert_eq!(verdict(b"M48\r"), (3, 1));
-    assert_eq!(verdict(b"M48\n\0"), (3, 2));
-    assert_eq!(verdict("x".repeat(300).as_bytes()), (3, 1));
-    assert_eq!(verdict(BENCH.trim_end().as_bytes()), (3, 15));
+    assert_eq!(verdict(b"M48"), (3, 1, 0));
+    assert_eq!(verdict(b"M48\r"), (3, 1, 0));
+    assert_eq!(verdict(b"M48\n\0"), (3, 2, 0));
+    assert_eq!(verdict("x".repeat(300).as_bytes()), (3, 1, 0));
+    assert_eq!(verdict(BENCH.trim_end().as_bytes()), (3, 15, 0));
 }
 
 #[test]
 fn reading_takes_one_cr_before_the_lf() {
     let file = BENCH.replace('\n', "\r\n");
-    assert_eq!(verdict(file.as_bytes()), (0, 15));
-    assert_eq!(verdict(b"M48\r\r\n"), (4, 1));
-    assert_eq!(verdict(b"M4\r8\n"), (4, 1));
-    assert_eq!(verdict(b"\r\n"), (5, 1));
+    assert_eq!(verdict(file.as_bytes()), (0, 15, 0));
+    assert_eq!(verdict(b"M48\r\r\n"), (4, 1, 4));
+    assert_eq!(verdict(b"M4\r8\n"), (4, 1, 3));
+    assert_eq!(verdict(b"\r\n"), (5, 1, 0));
 }
 
 #[test]
 fn reading_refuses_bytes() {
     for byte in [0, 9, 31, 127, 128, 255] {
-        assert_eq!(verdict(&[b';', byte, b'\n']), (4, 1));
+        assert_eq!(verdict(&[b';', byte, b'\n']), (4, 1, 2));
     }
-    assert_eq!(verdict(b"; ~\n"), (14, 2));
+    assert_eq!(verdict(b"; ~\n"), (14, 2, 0));
 }
 
 /// Texts that have no command's form.
@@ -343,30 +343,30 @@ const NO_FORM: [&str; 50] = [
 #[test]
 fn reading_refuses_forms() {
     for line in NO_FORM {
-        assert_eq!(body(line), (5, 7), "{line}");
+        assert_eq!(body(line), (5, 7, 0), "{line}");
     }
 }
 
 #[test]
 fn reading_refuses_ranges() {
     let long = "9".repeat(249);
-    for line in [
-        "X1000Y1",
-        "X1Y-1000.",
-        "X1.1234567Y0",
-        &format!("X{long}Y0"),
-        "G00X999.9999991Y0",
-        "G01X0Y1000000000000",
-        "G02X0Y0A0",
-        "G02X0Y0A.0",
-        "G03X0Y0A1000",
-        "G03X0Y0A0.0000001",
-        "T01C0",
-        "T01C1000",
-        "T99C0.0000000",
-        "T00C1",
+    for (line, column) in [
+        ("X1000Y1", 2),
+        ("X1Y-1000.", 4),
+        ("X1.1234567Y0", 2),
+        (&format!("X{long}Y0"), 2),
+        ("G00X999.9999991Y0", 5),
+        ("G01X0Y1000000000000", 7),
+        ("G02X0Y0A0", 9),
+        ("G02X0Y0A.0", 9),
+        ("G03X0Y0A1000", 9),
+        ("G03X0Y0A0.0000001", 9),
+        ("T01C0", 5),
+        ("T01C1000", 5),
+        ("T99C0.0000000", 5),
+        ("T00C1", 2),
     ] {
-        assert_eq!(body(line), (7, 7), "{line}");
+        assert_eq!(body(line), (7, 7, column), "{line}");
     }
 }
 
@@ -393,65 +393,65 @@ fn reading_takes_odd_spellings() {
 
 #[test]
 fn reading_refuses_by_phase() {
-    assert_eq!(verdict(b"METRIC\n"), (8, 1));
-    assert_eq!(verdict(b"M48\nM48\n"), (8, 2));
-    assert_eq!(verdict(b"M48\n%\n"), (8, 2));
-    assert_eq!(verdict(b"M48\nT01C1\n"), (8, 2));
-    assert_eq!(verdict(b"M48\nINCH\nMETRIC\n"), (8, 3));
-    assert_eq!(verdict(b"M48\nINCH\nG05\n"), (8, 3));
-    assert_eq!(body("T02C1"), (8, 7));
-    assert_eq!(body("%"), (8, 7));
-    assert_eq!(body("M30"), (8, 8));
-    assert_eq!(verdict((BENCH.to_owned() + ";\n").as_bytes()), (8, 16));
+    assert_eq!(verdict(b"METRIC\n"), (8, 1, 0));
+    assert_eq!(verdict(b"M48\nM48\n"), (8, 2, 0));
+    assert_eq!(verdict(b"M48\n%\n"), (8, 2, 0));
+    assert_eq!(verdict(b"M48\nT01C1\n"), (8, 2, 0));
+    assert_eq!(verdict(b"M48\nINCH\nMETRIC\n"), (8, 3, 0));
+    assert_eq!(verdict(b"M48\nINCH\nG05\n"), (8, 3, 0));
+    assert_eq!(body("T02C1"), (8, 7, 0));
+    assert_eq!(body("%"), (8, 7, 0));
+    assert_eq!(body("M30"), (8, 8, 0));
+    assert_eq!(verdict((BENCH.to_owned() + ";\n").as_bytes()), (8, 16, 0));
 }
 
 #[test]
 fn reading_refuses_by_motion() {
-    assert_eq!(body("M15"), (12, 7));
-    assert_eq!(body("M16"), (12, 7));
-    assert_eq!(body("G01X1Y1"), (12, 7));
-    assert_eq!(body("G02X1Y1A9"), (12, 7));
-    assert_eq!(rout("M15"), (12, 8));
-    assert_eq!(rout("G05"), (12, 8));
-    assert_eq!(rout("G00X1Y1"), (12, 8));
-    assert_eq!(rout("X1Y1"), (12, 8));
-    assert_eq!(rout("T01"), (12, 8));
-    assert_eq!(rout("T02"), (12, 8), "before 10");
-    assert_eq!(rout("M30"), (12, 8));
-    assert_eq!(body("G00X1Y1\nG01X1Y2"), (12, 8), "tool up");
+    assert_eq!(body("M15"), (12, 7, 0));
+    assert_eq!(body("M16"), (12, 7, 0));
+    assert_eq!(body("G01X1Y1"), (12, 7, 0));
+    assert_eq!(body("G02X1Y1A9"), (12, 7, 0));
+    assert_eq!(rout("M15"), (12, 8, 0));
+    assert_eq!(rout("G05"), (12, 8, 0));
+    assert_eq!(rout("G00X1Y1"), (12, 8, 0));
+    assert_eq!(rout("X1Y1"), (12, 8, 0));
+    assert_eq!(rout("T01"), (12, 8, 0));
+    assert_eq!(rout("T02"), (12, 8, 0), "before 10");
+    assert_eq!(rout("M30"), (12, 8, 0));
+    assert_eq!(body("G00X1Y1\nG01X1Y2"), (12, 8, 0), "tool up");
 }
 
 #[test]
 fn reading_refuses_tools() {
-    assert_eq!(header("T01C1\nT01C2"), (9, 4));
-    assert_eq!(header("T25C1\nT50C1\nT75C1\nT99C1\nT24C1\nT99C1"), (9, 8));
-    assert_eq!(body("T2"), (10, 7));
-    assert_eq!(verdict(b"M48\nINCH\nT01C1\n%\nG05\nX0Y0\n"), (11, 6));
-    assert_eq!(verdict(b"M48\nINCH\nT01C1\n%\nG00X0Y0\nM15\n"), (11, 6));
-    assert_eq!(verdict(b"M48\nINCH\nT01C1\n%\nX0Y0\n"), (12, 5), "12 before 11");
+    assert_eq!(header("T01C1\nT01C2"), (9, 4, 0));
+    assert_eq!(header("T25C1\nT50C1\nT75C1\nT99C1\nT24C1\nT99C1"), (9, 8, 0));
+    assert_eq!(body("T2"), (10, 7, 0));
+    assert_eq!(verdict(b"M48\nINCH\nT01C1\n%\nG05\nX0Y0\n"), (11, 6, 0));
+    assert_eq!(verdict(b"M48\nINCH\nT01C1\n%\nG00X0Y0\nM15\n"), (11, 6, 0));
+    assert_eq!(verdict(b"M48\nINCH\nT01C1\n%\nX0Y0\n"), (12, 5, 0), "12 before 11");
 }
 
 #[test]
 fn reading_refuses_impossible_arcs() {
-    assert_eq!(rout("G02X0Y0A1"), (13, 8));
-    assert_eq!(rout("G03X-0Y+0A1"), (13, 8));
+    assert_eq!(rout("G02X0Y0A1"), (13, 8, 0));
+    assert_eq!(rout("G03X-0Y+0A1"), (13, 8, 0));
     assert_eq!(rout("G02X2Y0A1").0, 0);
-    assert_eq!(rout("G02X2.000001Y0A1"), (13, 8));
+    assert_eq!(rout("G02X2.000001Y0A1"), (13, 8, 0));
     assert_eq!(rout("G02X3Y4A2.5").0, 0);
-    assert_eq!(rout("G02X3Y4A2.499999"), (13, 8));
+    assert_eq!(rout("G02X3Y4A2.499999"), (13, 8, 0));
     let far = "G01X-999.999999Y-999.999999\n";
     assert_eq!(rout(&format!("{far}G02X999.999999Y-999.999999A999.999999")).0, 0);
-    assert_eq!(rout(&format!("{far}G02X999.999999Y-999.999999A999.999998")), (13, 9));
-    assert_eq!(rout(&format!("{far}G02X999.999999Y999.999999A999.999999")), (13, 9));
+    assert_eq!(rout(&format!("{far}G02X999.999999Y-999.999999A999.999998")), (13, 9, 0));
+    assert_eq!(rout(&format!("{far}G02X999.999999Y999.999999A999.999999")), (13, 9, 0));
 }
 
 #[test]
 fn reading_refuses_a_short_table_last() {
     let mut table = vec![PATTERN; ROW * BENCH_LINES - 1];
-    assert_eq!(read(BENCH.as_bytes(), Rev2021, &mut table), (15, 0));
+    assert_eq!(read(BENCH.as_bytes(), Rev2021, &mut table), (15, 0, 0));
     assert!(table.iter().all(|&number| number == PATTERN));
-    assert_eq!(read(BENCH.replace("M30\n", "").as_bytes(), Rev2021, &mut []), (14, 15));
-    assert_eq!(print(BENCH.replace("M30\n", "").as_bytes(), Rev2021), b"refused\t14\t15\n");
+    assert_eq!(read(BENCH.replace("M30\n", "").as_bytes(), Rev2021, &mut []), (14, 15, 0));
+    assert_eq!(print(BENCH.replace("M30\n", "").as_bytes(), Rev2021), b"refused\t14\t15\t0\n");
 }
 
 #[test]
@@ -459,14 +459,14 @@ fn editing_refuses_sizes_lines_and_ends() {
     let good = bench();
     let mut table = good.clone();
     for n in [0, BENCH_LINES + 1, 1_000, 1_001, usize::MAX, usize::MAX / ROW + 1] {
-        assert_eq!(edit(&mut table, n, 0, b"\n", Rev2021), (18, 0));
+        assert_eq!(edit(&mut table, n, 0, b"\n", Rev2021), (18, 0, 0));
     }
     for line in [0, 16, 1_000, usize::MAX, 1 << 32] {
-        assert_eq!(edit(&mut table, BENCH_LINES, line, b"\n", Rev2021), (16, 0));
+        assert_eq!(edit(&mut table, BENCH_LINES, line, b"\n", Rev2021), (16, 0, 0));
     }
     table[0] = 99;
     for text in [&b"\n"[..], b"\r", b"X1Y1\r", b";\n;", &[b'\n'; 300]] {
-        assert_eq!(edit(&mut table, BENCH_LINES, 1, text, Rev2021), (17, 0));
+        assert_eq!(edit(&mut table, BENCH_LINES, 1, text, Rev2021), (17, 0, 0));
     }
     table[0] = 1;
     assert_eq!(table, good);
@@ -474,18 +474,18 @@ fn editing_refuses_sizes_lines_and_ends() {
 
 #[test]
 fn editing_refuses_as_reading_does() {
-    assert_eq!(edited(8, &";".repeat(257)), (6, 8));
-    assert_eq!(edited(8, "X1\tY1"), (4, 8));
-    assert_eq!(edited(8, ""), (5, 8));
-    assert_eq!(edited(8, "X1000Y1"), (7, 8));
-    assert_eq!(edited(8, "METRIC"), (8, 8));
-    assert_eq!(edited(4, "T01C1"), (9, 4));
-    assert_eq!(edited(9, "T8"), (10, 9));
-    assert_eq!(edited(7, ";"), (11, 8));
-    assert_eq!(edited(8, "M15"), (12, 8));
-    assert_eq!(edited(13, "G03X4Y0A1"), (13, 13));
-    assert_eq!(edited(12, "G01X0Y9"), (13, 13));
-    assert_eq!(edited(15, "G05"), (14, 16));
+    assert_eq!(edited(8, &";".repeat(257)), (6, 8, 0));
+    assert_eq!(edited(8, "X1\tY1"), (4, 8, 3));
+    assert_eq!(edited(8, ""), (5, 8, 0));
+    assert_eq!(edited(8, "X1000Y1"), (7, 8, 2));
+    assert_eq!(edited(8, "METRIC"), (8, 8, 0));
+    assert_eq!(edited(4, "T01C1"), (9, 4, 0));
+    assert_eq!(edited(9, "T8"), (10, 9, 0));
+    assert_eq!(edited(7, ";"), (11, 8, 0));
+    assert_eq!(edited(8, "M15"), (12, 8, 0));
+    assert_eq!(edited(13, "G03X4Y0A1"), (13, 13, 0));
+    assert_eq!(edited(12, "G01X0Y9"), (13, 13, 0));
+    assert_eq!(edited(15, "G05"), (14, 16, 0));
 }
 
 #[test]
@@ -496,27 +496,27 @@ fn editing_looks_at_the_rows_of_its_span_only() {
         table
     };
     // The row before, the edited row, and rows on the way.
-    assert_eq!(edit(&mut bad_at(7), BENCH_LINES, 8, b"X2Y3", Rev2021), (18, 7));
-    assert_eq!(edit(&mut bad_at(8), BENCH_LINES, 8, b"", Rev2021), (18, 8));
-    assert_eq!(edit(&mut bad_at(6), BENCH_LINES, 8, b"X2Y3", Rev2021), (0, 8));
-    assert_eq!(edit(&mut bad_at(9), BENCH_LINES, 8, b"X2Y3", Rev2021), (0, 8));
-    assert_eq!(edit(&mut bad_at(13), BENCH_LINES, 12, b"G01X4Y1", Rev2021), (18, 13));
-    assert_eq!(edit(&mut bad_at(14), BENCH_LINES, 12, b"G01X4Y1", Rev2021), (0, 13));
-    assert_eq!(edit(&mut bad_at(15), BENCH_LINES, 2, b"INCH", Rev2021), (18, 15));
+    assert_eq!(edit(&mut bad_at(7), BENCH_LINES, 8, b"X2Y3", Rev2021), (18, 7, 0));
+    assert_eq!(edit(&mut bad_at(8), BENCH_LINES, 8, b"", Rev2021), (18, 8, 0));
+    assert_eq!(edit(&mut bad_at(6), BENCH_LINES, 8, b"X2Y3", Rev2021), (0, 8, 0));
+    assert_eq!(edit(&mut bad_at(9), BENCH_LINES, 8, b"X2Y3", Rev2021), (0, 8, 0));
+    assert_eq!(edit(&mut bad_at(13), BENCH_LINES, 12, b"G01X4Y1", Rev2021), (18, 13, 0));
+    assert_eq!(edit(&mut bad_at(14), BENCH_LINES, 12, b"G01X4Y1", Rev2021), (0, 13, 0));
+    assert_eq!(edit(&mut bad_at(15), BENCH_LINES, 2, b"INCH", Rev2021), (18, 15, 0));
     // The row's test comes before its own refusal.
-    assert_eq!(edit(&mut bad_at(7), BENCH_LINES, 3, b"T02C0.5", Rev2021), (18, 7));
-    assert_eq!(edit(&mut bad_at(8), BENCH_LINES, 3, b"T02C0.5", Rev2021), (10, 7));
+    assert_eq!(edit(&mut bad_at(7), BENCH_LINES, 3, b"T02C0.5", Rev2021), (18, 7, 0));
+    assert_eq!(edit(&mut bad_at(8), BENCH_LINES, 3, b"T02C0.5", Rev2021), (10, 7, 0));
 }
 
 #[test]
 fn editing_a_bad_table_may_end_by_agreement() {
     // Cut before M30: the last row agrees, so 14 isn't tested.
     let mut table = bench();
-    assert_eq!(edit(&mut table, 8, 8, b"X2Y3", Rev2021), (0, 8));
-    assert_eq!(edit(&mut table, 8, 8, b"T07", Rev2021), (14, 9));
+    assert_eq!(edit(&mut table, 8, 8, b"X2Y3", Rev2021), (0, 8, 0));
+    assert_eq!(edit(&mut table, 8, 8, b"T07", Rev2021), (14, 9, 0));
     // A selected tool outside the declared set is in range, and a hit asks no more.
     table[6 * ROW + 8] = 50;
-    assert_eq!(edit(&mut table, 8, 8, b"X2Y4", Rev2021), (14, 9));
+    assert_eq!(edit(&mut table, 8, 8, b"X2Y4", Rev2021), (14, 9, 0));
 }
 
 /// Whether the arc's row, line 13 of the bench file, is one with this number in its place.
@@ -583,47 +583,47 @@ fn holes_are_found_or_refused() {
     let none = vec![PATTERN; 7];
     assert_eq!(
         ask(&table, BENCH_LINES, 8, 7),
-        ((0, 1), vec![9, 1, 2_000_000, -3_500_000, 2_000_000, -3_500_000, 0])
+        ((0, 1, 0), vec![9, 1, 2_000_000, -3_500_000, 2_000_000, -3_500_000, 0])
     );
     assert_eq!(
         ask(&table, BENCH_LINES, 12, 8),
-        ((0, 1), vec![12, 7, 0, 0, 4_000_000, 0, 0, PATTERN])
+        ((0, 1, 0), vec![12, 7, 0, 0, 4_000_000, 0, 0, PATTERN])
     );
-    assert_eq!(ask(&table, BENCH_LINES, 1, 7), ((0, 0), none.clone()));
-    assert_eq!(ask(&table, BENCH_LINES, 11, 7), ((0, 0), none));
-    assert_eq!(ask(&table, BENCH_LINES, 8, 6), ((15, 0), vec![PATTERN; 6]));
-    assert_eq!(ask(&table, BENCH_LINES, 1, 0), ((15, 0), vec![]));
-    assert_eq!(ask(&table, BENCH_LINES, 0, 0), ((16, 0), vec![]));
-    assert_eq!(ask(&table, BENCH_LINES, 16, 0), ((16, 0), vec![]));
-    assert_eq!(ask(&table, 0, 0, 0), ((18, 0), vec![]));
-    assert_eq!(ask(&table, 16, 0, 0), ((18, 0), vec![]));
-    assert_eq!(ask(&table, usize::MAX, usize::MAX, 0), ((18, 0), vec![]));
+    assert_eq!(ask(&table, BENCH_LINES, 1, 7), ((0, 0, 0), none.clone()));
+    assert_eq!(ask(&table, BENCH_LINES, 11, 7), ((0, 0, 0), none));
+    assert_eq!(ask(&table, BENCH_LINES, 8, 6), ((15, 0, 0), vec![PATTERN; 6]));
+    assert_eq!(ask(&table, BENCH_LINES, 1, 0), ((15, 0, 0), vec![]));
+    assert_eq!(ask(&table, BENCH_LINES, 0, 0), ((16, 0, 0), vec![]));
+    assert_eq!(ask(&table, BENCH_LINES, 16, 0), ((16, 0, 0), vec![]));
+    assert_eq!(ask(&table, 0, 0, 0), ((18, 0, 0), vec![]));
+    assert_eq!(ask(&table, 16, 0, 0), ((18, 0, 0), vec![]));
+    assert_eq!(ask(&table, usize::MAX, usize::MAX, 0), ((18, 0, 0), vec![]));
     let mut bad = table.clone();
     bad[11 * ROW - 1] = -1;
-    assert_eq!(ask(&bad, BENCH_LINES, 12, 0), ((18, 11), vec![]));
-    assert_eq!(ask(&bad, BENCH_LINES, 11, 0), ((18, 11), vec![]));
-    assert_eq!(ask(&bad, BENCH_LINES, 13, 7).0, (0, 1));
-    assert_eq!(ask(&bad, BENCH_LINES, 10, 7).0, (0, 0));
+    assert_eq!(ask(&bad, BENCH_LINES, 12, 0), ((18, 11, 0), vec![]));
+    assert_eq!(ask(&bad, BENCH_LINES, 11, 0), ((18, 11, 0), vec![]));
+    assert_eq!(ask(&bad, BENCH_LINES, 13, 7).0, (0, 1, 0));
+    assert_eq!(ask(&bad, BENCH_LINES, 10, 7).0, (0, 0, 0));
 }
 
 #[test]
 fn writing_refuses_bad_tables_before_short_texts() {
     let good = bench();
     for n in [0, 16, 1_001, usize::MAX] {
-        assert_eq!(write(&good, n, &mut []), (18, 0));
+        assert_eq!(write(&good, n, &mut []), (18, 0, 0));
     }
-    assert_eq!(write(&good, 14, &mut []), (18, 14));
+    assert_eq!(write(&good, 14, &mut []), (18, 14, 0));
     for (line, field, value) in [(1, 5, 2), (3, 1, 0), (7, 8, 7), (8, 9, 1), (13, 4, 1), (15, 5, 3)]
     {
         let mut table = good.clone();
         table[(line - 1) * ROW + field] = value;
-        assert_eq!(write(&table, BENCH_LINES, &mut []), (18, line as u32));
+        assert_eq!(write(&table, BENCH_LINES, &mut []), (18, line as u32, 0));
     }
     let length = BENCH.len() + 1;
     let mut text = vec![b'~'; length - 1];
-    assert_eq!(write(&good, BENCH_LINES, &mut text), (15, 0));
+    assert_eq!(write(&good, BENCH_LINES, &mut text), (15, 0, 0));
     assert!(text.iter().all(|&byte| byte == b'~'));
-    assert_eq!(write(&good, BENCH_LINES, &mut vec![0; length]), (0, length as u32));
+    assert_eq!(write(&good, BENCH_LINES, &mut vec![0; length]), (0, length as u32, 0));
 }
 
 #[test]
@@ -634,7 +634,7 @@ fn written_numbers_have_no_spare_digits() {
                     G02X-999.999999Y-899.999999A999.999999\nM16\nG05\nX10.01Y-0.000001\nM30\n";
     let table = table_of(file);
     let mut text = vec![0; expected.len()];
-    assert_eq!(write(&table, file.lines().count(), &mut text), (0, expected.len() as u32));
+    assert_eq!(write(&table, file.lines().count(), &mut text), (0, expected.len() as u32, 0));
     assert_eq!(String::from_utf8(text).unwrap(), expected);
     let kept: Vec<i32> = table.chunks(ROW).filter(|row| row[0] != 0).flatten().copied().collect();
     assert_eq!(table_of(expected), kept);
@@ -643,20 +643,20 @@ fn written_numbers_have_no_spare_digits() {
 #[test]
 fn diameters_are_found_or_refused() {
     let table = bench();
-    assert_eq!(diameter(&table, BENCH_LINES, 1), (0, 500_000));
-    assert_eq!(diameter(&table, BENCH_LINES, 7), (0, 1_250_000));
-    assert_eq!(diameter(&table, BENCH_LINES, 2), (10, 0));
+    assert_eq!(diameter(&table, BENCH_LINES, 1), (0, 500_000, 0));
+    assert_eq!(diameter(&table, BENCH_LINES, 7), (0, 1_250_000, 0));
+    assert_eq!(diameter(&table, BENCH_LINES, 2), (10, 0, 0));
     for tool in [0, 100, u32::MAX] {
-        assert_eq!(diameter(&table, BENCH_LINES, tool), (7, 0));
+        assert_eq!(diameter(&table, BENCH_LINES, tool), (7, 0, 0));
     }
     for n in [0, 16, 1_001, usize::MAX] {
-        assert_eq!(diameter(&table, n, 0), (18, 0));
+        assert_eq!(diameter(&table, n, 0), (18, 0, 0));
     }
     let mut bad = table.clone();
     bad[4 * ROW - 1] = -1;
-    assert_eq!(diameter(&bad, BENCH_LINES, 1), (0, 500_000));
-    assert_eq!(diameter(&bad, BENCH_LINES, 7), (18, 4));
-    assert_eq!(diameter(&bad, BENCH_LINES, 2), (18, 4));
+    assert_eq!(diameter(&bad, BENCH_LINES, 1), (0, 500_000, 0));
+    assert_eq!(diameter(&bad, BENCH_LINES, 7), (18, 4, 0));
+    assert_eq!(diameter(&bad, BENCH_LINES, 2), (18, 4, 0));
 }
 
 // ------------------------------------------------------- the 2019 revision
@@ -670,8 +670,8 @@ fn bench_of_2019() -> String {
 fn one_digit_declarations_are_read_by_2019_and_have_no_form_by_2021() {
     for tool in 1..=9 {
         let line = format!("T{tool}C0.6");
-        assert_eq!(header_by(Rev2019, &line), (0, 5), "{line}");
-        assert_eq!(header_by(Rev2021, &line), (5, 3), "{line}");
+        assert_eq!(header_by(Rev2019, &line), (0, 5, 0), "{line}");
+        assert_eq!(header_by(Rev2021, &line), (5, 3, 0), "{line}");
         let table = table_by(Rev2019, &format!("M48\nINCH\n{line}\n%\nM30\n"));
         let declared = 1 << tool;
         assert_eq!(row(&table, 3), [4, tool, 0, 0, 600_000, 2, 2, 0, 0, 0, 0, declared, 0, 0, 0]);
@@ -681,20 +681,20 @@ fn one_digit_declarations_are_read_by_2019_and_have_no_form_by_2021() {
 #[test]
 fn tool_numbers_of_declarations_by_both() {
     let cases = [
-        ("T0C1", (7, 3), (5, 3)),
-        ("T00C1", (7, 3), (7, 3)),
-        ("T000C1", (5, 3), (5, 3)),
-        ("T001C1", (5, 3), (5, 3)),
-        ("T100C1", (5, 3), (5, 3)),
-        ("T01C1", (0, 5), (0, 5)),
-        ("T10C1", (0, 5), (0, 5)),
-        ("T99C1", (0, 5), (0, 5)),
-        ("TC1", (5, 3), (5, 3)),
-        ("T+1C1", (5, 3), (5, 3)),
-        ("T1.C1", (5, 3), (5, 3)),
-        ("T1 C1", (5, 3), (5, 3)),
-        ("T1c1", (5, 3), (5, 3)),
-        ("T1A1", (5, 3), (5, 3)),
+        ("T0C1", (7, 3, 2), (5, 3, 0)),
+        ("T00C1", (7, 3, 2), (7, 3, 2)),
+        ("T000C1", (5, 3, 0), (5, 3, 0)),
+        ("T001C1", (5, 3, 0), (5, 3, 0)),
+        ("T100C1", (5, 3, 0), (5, 3, 0)),
+        ("T01C1", (0, 5, 0), (0, 5, 0)),
+        ("T10C1", (0, 5, 0), (0, 5, 0)),
+        ("T99C1", (0, 5, 0), (0, 5, 0)),
+        ("TC1", (5, 3, 0), (5, 3, 0)),
+        ("T+1C1", (5, 3, 0), (5, 3, 0)),
+        ("T1.C1", (5, 3, 0), (5, 3, 0)),
+        ("T1 C1", (5, 3, 0), (5, 3, 0)),
+        ("T1c1", (5, 3, 0), (5, 3, 0)),
+        ("T1A1", (5, 3, 0), (5, 3, 0)),
     ];
     for (line, by_2019, by_2021) in cases {
         assert_eq!(header_by(Rev2019, line), by_2019, "{line}");
@@ -706,35 +706,35 @@ fn tool_numbers_of_declarations_by_both() {
 fn diameters_behind_one_digit_have_their_form_and_range() {
     for tail in ["", "-1", "+1", ".", "1.1.1", "1 ", " 1", "1C1", "C1", "1000q"] {
         for line in [format!("T1C{tail}"), format!("T0C{tail}")] {
-            assert_eq!(header_by(Rev2019, &line), (5, 3), "{line}");
+            assert_eq!(header_by(Rev2019, &line), (5, 3, 0), "{line}");
         }
     }
     for tail in ["0", ".0", "1000", "0.0000001", "1.0000000"] {
-        for line in [format!("T1C{tail}"), format!("T0C{tail}")] {
-            assert_eq!(header_by(Rev2019, &line), (7, 3), "{line}");
-            assert_eq!(header_by(Rev2021, &line), (5, 3), "{line}");
+        for (line, column) in [(format!("T1C{tail}"), 4), (format!("T0C{tail}"), 2)] {
+            assert_eq!(header_by(Rev2019, &line), (7, 3, column), "{line}");
+            assert_eq!(header_by(Rev2021, &line), (5, 3, 0), "{line}");
         }
     }
     for tail in ["1", "5.", ".5", "008.150", "0.000001", "999.999999"] {
-        assert_eq!(header_by(Rev2019, &format!("T1C{tail}")), (0, 5), "{tail}");
+        assert_eq!(header_by(Rev2019, &format!("T1C{tail}")), (0, 5, 0), "{tail}");
     }
 }
 
 #[test]
 fn lines_are_as_long_by_both() {
     let declaration = |zeros| format!("T1C{}1", "0".repeat(zeros));
-    assert_eq!(header_by(Rev2019, &declaration(252)), (0, 5));
-    assert_eq!(header_by(Rev2021, &declaration(252)), (5, 3));
+    assert_eq!(header_by(Rev2019, &declaration(252)), (0, 5, 0));
+    assert_eq!(header_by(Rev2021, &declaration(252)), (5, 3, 0));
     for revision in BOTH {
-        assert_eq!(header_by(revision, &declaration(253)), (6, 3));
-        assert_eq!(header_by(revision, "T1C1\t"), (4, 3));
+        assert_eq!(header_by(revision, &declaration(253)), (6, 3, 0));
+        assert_eq!(header_by(revision, "T1C1\t"), (4, 3, 5));
     }
 }
 
 #[test]
 fn texts_without_form_have_none_by_2019_either() {
     for line in NO_FORM {
-        assert_eq!(body_by(Rev2019, line), (5, 7), "{line}");
+        assert_eq!(body_by(Rev2019, line), (5, 7, 0), "{line}");
     }
 }
 
@@ -742,13 +742,13 @@ fn texts_without_form_have_none_by_2019_either() {
 fn selections_are_the_same_by_both() {
     for revision in BOTH {
         for (line, expected) in [
-            ("T1", (0, 8)),
-            ("T01", (0, 8)),
-            ("T2", (10, 7)),
-            ("T02", (10, 7)),
-            ("T0", (7, 7)),
-            ("T00", (7, 7)),
-            ("T001", (5, 7)),
+            ("T1", (0, 8, 0)),
+            ("T01", (0, 8, 0)),
+            ("T2", (10, 7, 0)),
+            ("T02", (10, 7, 0)),
+            ("T0", (7, 7, 2)),
+            ("T00", (7, 7, 2)),
+            ("T001", (5, 7, 0)),
         ] {
             assert_eq!(body_by(revision, line), expected, "{line}, {revision:?}");
         }
@@ -757,20 +757,20 @@ fn selections_are_the_same_by_both() {
 
 #[test]
 fn one_digit_declarations_have_their_phase() {
-    assert_eq!(body_by(Rev2019, "T2C1"), (8, 7));
-    assert_eq!(body_by(Rev2021, "T2C1"), (5, 7));
-    assert_eq!(verdict_by(Rev2019, b"M48\nT1C1\n"), (8, 2));
-    assert_eq!(verdict_by(Rev2019, b"T1C1\n"), (8, 1));
+    assert_eq!(body_by(Rev2019, "T2C1"), (8, 7, 0));
+    assert_eq!(body_by(Rev2021, "T2C1"), (5, 7, 0));
+    assert_eq!(verdict_by(Rev2019, b"M48\nT1C1\n"), (8, 2, 0));
+    assert_eq!(verdict_by(Rev2019, b"T1C1\n"), (8, 1, 0));
 }
 
 #[test]
 fn a_tool_is_declared_once_whatever_its_digits() {
-    assert_eq!(header_by(Rev2019, "T1C0.5\nT01C0.5"), (9, 4));
-    assert_eq!(header_by(Rev2019, "T01C0.5\nT1C0.5"), (9, 4));
-    assert_eq!(header_by(Rev2019, "T1C0.5\nT2C1\nT1C0.6"), (9, 5));
-    assert_eq!(header_by(Rev2019, "T1C0.5\nT10C0.5\nT11C0.5"), (0, 7));
-    assert_eq!(header_by(Rev2021, "T1C0.5\nT01C0.5"), (5, 3));
-    assert_eq!(header_by(Rev2021, "T01C0.5\nT1C0.5"), (5, 4));
+    assert_eq!(header_by(Rev2019, "T1C0.5\nT01C0.5"), (9, 4, 0));
+    assert_eq!(header_by(Rev2019, "T01C0.5\nT1C0.5"), (9, 4, 0));
+    assert_eq!(header_by(Rev2019, "T1C0.5\nT2C1\nT1C0.6"), (9, 5, 0));
+    assert_eq!(header_by(Rev2019, "T1C0.5\nT10C0.5\nT11C0.5"), (0, 7, 0));
+    assert_eq!(header_by(Rev2021, "T1C0.5\nT01C0.5"), (5, 3, 0));
+    assert_eq!(header_by(Rev2021, "T01C0.5\nT1C0.5"), (5, 4, 0));
 }
 
 /// One digit and two, in declarations and in selections.
@@ -790,7 +790,7 @@ fn one_and_two_digits_stand_in_one_file_by_2019() {
                     16\tH\t9\t4000000\t4000000\t4000000\t4000000\t0\n\
                     holes\t4\n";
     assert_eq!(String::from_utf8(print(MIXED.as_bytes(), Rev2019)).unwrap(), expected);
-    assert_eq!(print(MIXED.as_bytes(), Rev2021), b"refused\t5\t3\n");
+    assert_eq!(print(MIXED.as_bytes(), Rev2021), b"refused\t5\t3\t0\n");
 }
 
 #[test]
@@ -809,7 +809,7 @@ fn what_is_written_reads_back_to_the_same_table_by_both() {
                    T10\nX3Y3\nT09\nX4Y4\nM30\n";
     let table = table_by(Rev2019, MIXED);
     let mut text = vec![b'~'; written.len() + 3];
-    assert_eq!(write(&table, MIXED.lines().count(), &mut text), (0, written.len() as u32));
+    assert_eq!(write(&table, MIXED.lines().count(), &mut text), (0, written.len() as u32, 0));
     assert_eq!(String::from_utf8(text).unwrap(), written.to_owned() + "~~~");
     for revision in BOTH {
         assert_eq!(table_by(revision, written), table, "{revision:?}");
@@ -819,43 +819,43 @@ fn what_is_written_reads_back_to_the_same_table_by_both() {
 #[test]
 fn editing_by_2019_puts_in_a_one_digit_declaration() {
     let cases = [
-        (3, "T1C0.6", (0, 3), (5, 3)),
-        (4, "T7C2", (0, 4), (5, 4)),
-        (3, "T2C0.5", (10, 7), (5, 3)),
-        (4, "T1C1.25", (9, 4), (5, 4)),
-        (3, "T0C1", (7, 3), (5, 3)),
-        (3, "T1C0", (7, 3), (5, 3)),
-        (8, "T1C1", (8, 8), (5, 8)),
-        (3, "T1C", (5, 3), (5, 3)),
-        (3, "T001C1", (5, 3), (5, 3)),
-        (3, "T00C1", (7, 3), (7, 3)),
-        (7, "T01", (0, 7), (0, 7)),
-        (9, "T7", (0, 9), (0, 9)),
+        (3, "T1C0.6", (0, 3, 0), (5, 3, 0)),
+        (4, "T7C2", (0, 4, 0), (5, 4, 0)),
+        (3, "T2C0.5", (10, 7, 0), (5, 3, 0)),
+        (4, "T1C1.25", (9, 4, 0), (5, 4, 0)),
+        (3, "T0C1", (7, 3, 2), (5, 3, 0)),
+        (3, "T1C0", (7, 3, 4), (5, 3, 0)),
+        (8, "T1C1", (8, 8, 0), (5, 8, 0)),
+        (3, "T1C", (5, 3, 0), (5, 3, 0)),
+        (3, "T001C1", (5, 3, 0), (5, 3, 0)),
+        (3, "T00C1", (7, 3, 2), (7, 3, 2)),
+        (7, "T01", (0, 7, 0), (0, 7, 0)),
+        (9, "T7", (0, 9, 0), (0, 9, 0)),
     ];
     for (line, text, by_2019, by_2021) in cases {
         assert_eq!(edited_by(Rev2019, line, text), by_2019, "{text}");
         assert_eq!(edited_by(Rev2021, line, text), by_2021, "{text}");
     }
     let mut table = bench();
-    assert_eq!(edit(&mut table, BENCH_LINES, 3, b"T1C0.6", Rev2019), (0, 3));
+    assert_eq!(edit(&mut table, BENCH_LINES, 3, b"T1C0.6", Rev2019), (0, 3, 0));
     assert_eq!(row(&table, 3), [4, 1, 0, 0, 600_000, 2, 1, 0, 0, 0, 0, 2, 0, 0, 0]);
 }
 
 #[test]
 fn a_table_read_by_one_revision_is_edited_by_the_other() {
     let mut table = table_by(Rev2019, &bench_of_2019());
-    assert_eq!(edit(&mut table, BENCH_LINES, 3, b"T1C0.6", Rev2021), (5, 3));
-    assert_eq!(edit(&mut table, BENCH_LINES, 3, b"T01C0.6", Rev2021), (0, 3));
+    assert_eq!(edit(&mut table, BENCH_LINES, 3, b"T1C0.6", Rev2021), (5, 3, 0));
+    assert_eq!(edit(&mut table, BENCH_LINES, 3, b"T01C0.6", Rev2021), (0, 3, 0));
     assert_eq!(table, table_of(&replaced(3, "T01C0.6")));
-    assert_eq!(edit(&mut table, BENCH_LINES, 3, b"T01C0.5", Rev2021), (0, 3));
+    assert_eq!(edit(&mut table, BENCH_LINES, 3, b"T01C0.5", Rev2021), (0, 3, 0));
     // The span passes the rows that one-digit declarations were read to.
-    assert_eq!(edit(&mut table, BENCH_LINES, 2, b"INCH", Rev2021), (0, 15));
+    assert_eq!(edit(&mut table, BENCH_LINES, 2, b"INCH", Rev2021), (0, 15, 0));
     assert_eq!(table, table_of(&replaced(2, "INCH")));
 
     let mut table = bench();
-    assert_eq!(edit(&mut table, BENCH_LINES, 4, b"T7C2", Rev2019), (0, 4));
+    assert_eq!(edit(&mut table, BENCH_LINES, 4, b"T7C2", Rev2019), (0, 4, 0));
     assert_eq!(table, table_of(&replaced(4, "T07C2")));
-    assert_eq!(edit(&mut table, BENCH_LINES, 2, b"INCH", Rev2019), (0, 15));
+    assert_eq!(edit(&mut table, BENCH_LINES, 2, b"INCH", Rev2019), (0, 15, 0));
 }
 
 #[test]
@@ -868,8 +868,552 @@ fn moves_are_printed_by_one_revision() {
         assert_eq!(moves("3\tT01C0.6", BENCH, revision), expected, "{revision:?}");
     }
     assert_eq!(moves("3\tT1C0.6", BENCH, Rev2019), expected);
-    assert_eq!(moves("3\tT1C0.6", BENCH, Rev2021), "refused\t5\t3\n");
+    assert_eq!(moves("3\tT1C0.6", BENCH, Rev2021), "refused\t5\t3\t0\n");
     let older = replaced(3, "T1C0.5");
     assert_eq!(moves("3\tT01C0.6", &older, Rev2019), expected);
-    assert_eq!(moves("3\tT01C0.6", &older, Rev2021), "refused\t5\t3\n");
+    assert_eq!(moves("3\tT01C0.6", &older, Rev2021), "refused\t5\t3\t0\n");
+}
+
+// -------------------------------------------------------- which column
+
+/// The bench file with bytes in the place of a line.
+fn replaced_bytes(line: usize, text: &[u8]) -> Vec<u8> {
+    let mut lines: Vec<&[u8]> = BENCH.lines().map(str::as_bytes).collect();
+    lines[line - 1] = text;
+    let mut file = lines.join(&b'\n');
+    file.push(b'\n');
+    file
+}
+
+fn printed_refusal((number, line, column): Answer) -> Vec<u8> {
+    format!("refused\t{number}\t{line}\t{column}\n").into_bytes()
+}
+
+/// What a line of the bench file is refused with by reading it, ended by LF or by CR LF, by editing
+/// and in the print-outs, which all agree. So do both revisions.
+fn refusal(line: usize, text: &[u8]) -> Answer {
+    let [by_2019, by_2021] = BOTH.map(|revision| refusal_by(revision, line, text));
+    assert_eq!(by_2019, by_2021, "{}", text.escape_ascii());
+    by_2021
+}
+
+fn refusal_by(revision: Revision, line: usize, text: &[u8]) -> Answer {
+    let answer = verdict_by(revision, &replaced_bytes(line, text));
+    assert_ne!(answer.0, 0, "{}", text.escape_ascii());
+    assert_eq!(verdict_by(revision, &replaced_bytes(line, &[text, b"\r"].concat())), answer);
+    assert_eq!(print(&replaced_bytes(line, text), revision), printed_refusal(answer));
+
+    let good = bench();
+    let mut table = good.clone();
+    assert_eq!(edit(&mut table, BENCH_LINES, line, text, revision), answer);
+    assert_eq!(table, good);
+    for end in ["\n", "\r\n"] {
+        let first = [format!("{line}\t").as_bytes(), text, end.as_bytes()].concat();
+        let moves = [&first, BENCH.as_bytes()].concat();
+        assert_eq!(print_moves(&moves, revision), printed_refusal(answer));
+    }
+    answer
+}
+
+/// Texts for lines of the bench file, and the columns at which they are refused 7.
+fn refused_for_ranges(cases: &[(usize, &str, u32)]) {
+    for &(line, text, column) in cases {
+        assert_eq!(refusal(line, text.as_bytes()), (7, line as u32, column), "{text}");
+    }
+}
+
+#[test]
+fn column_of_the_students_line() {
+    assert_eq!(refusal(13, b"G03X6.0Y1600A1.0"), (7, 13, 9));
+}
+
+#[test]
+fn columns_in_declarations() {
+    refused_for_ranges(&[
+        (3, "T00C1", 2),
+        (3, "T01C0", 5),
+        (3, "T00C0", 2),
+        (3, "T01C1000", 5),
+        (3, "T00C1000", 2),
+        (3, "T10C0", 5),
+        (3, "T99C.0", 5),
+        (3, "T99C0.", 5),
+        (3, "T01C0000", 5),
+        (3, "T01C0001000", 5),
+        (3, "T01C0.0000005", 5),
+        (3, "T01C1.0000000", 5),
+        (3, "T00C1.0000000", 2),
+    ]);
+}
+
+#[test]
+fn columns_in_one_digit_declarations_by_2019() {
+    for (text, column) in [
+        ("T0C1", 2),
+        ("T1C0", 4),
+        ("T0C0", 2),
+        ("T1C1000", 4),
+        ("T0C1000", 2),
+        ("T9C.0", 4),
+        ("T9C1.0000000", 4),
+        ("T0C1.0000000", 2),
+    ] {
+        assert_eq!(refusal_by(Rev2019, 3, text.as_bytes()), (7, 3, column), "{text}");
+        assert_eq!(refusal_by(Rev2021, 3, text.as_bytes()), (5, 3, 0), "{text}");
+    }
+}
+
+#[test]
+fn columns_in_selections() {
+    refused_for_ranges(&[(7, "T0", 2), (7, "T00", 2), (9, "T0", 2), (9, "T00", 2)]);
+}
+
+#[test]
+fn columns_in_hits() {
+    refused_for_ranges(&[
+        (8, "X1000Y0", 2),
+        (8, "X0Y1000", 4),
+        (8, "X1000Y1000", 2),
+        (8, "X12.5Y1000", 7),
+        (8, "X999.999999Y1000", 13),
+        (8, "X1000.Y0", 2),
+        (8, "X0001000Y0", 2),
+        (8, "X0Y0001000", 4),
+    ]);
+}
+
+#[test]
+fn columns_in_moves_and_lines() {
+    for (line, code) in [(10, "G00"), (12, "G01")] {
+        for (numbers, column) in [
+            ("X1000Y0", 5),
+            ("X0Y1000", 7),
+            ("X1000Y1000", 5),
+            ("X-1000Y0", 5),
+            ("X0Y-1000", 7),
+            ("X-5Y+1000", 8),
+            ("X+1000Y-1000", 5),
+            ("X1.5Y1.0000000", 9),
+            ("X1.0000000Y1.0000000", 5),
+        ] {
+            refused_for_ranges(&[(line, &format!("{code}{numbers}"), column)]);
+        }
+    }
+}
+
+#[test]
+fn columns_in_arcs() {
+    for code in ["G02", "G03"] {
+        for (numbers, column) in [
+            ("X1600Y2A1", 5),
+            ("X6.0Y1600A1", 9),
+            ("X6.0Y2A1600", 11),
+            ("X1600Y1600A1", 5),
+            ("X1600Y2A1600", 5),
+            ("X6.0Y1600A1600", 9),
+            ("X1600Y1600A1600", 5),
+            ("X6.0Y2A0", 11),
+            ("X6.0Y2A.0", 11),
+            ("X6.0Y1600A0", 9),
+            ("X-6.0Y-2A0", 13),
+            ("X-1600Y2A1", 5),
+            ("X6Y+1600A1", 7),
+            ("X6Y2A1.0000000", 9),
+            ("X6Y2A0.0000001", 9),
+            ("X6Y-2.0000000A0", 7),
+        ] {
+            refused_for_ranges(&[(13, &format!("{code}{numbers}"), column)]);
+        }
+    }
+}
+
+#[test]
+fn columns_of_numbers_are_those_of_their_signs() {
+    refused_for_ranges(&[
+        (8, "X-1000Y0", 2),
+        (8, "X+1000Y0", 2),
+        (8, "X0Y-1000", 4),
+        (8, "X0Y+1000", 4),
+        (8, "X-1Y-1000", 5),
+        (8, "X+1Y+1000", 5),
+        (8, "X-1000Y-1000", 2),
+        (8, "X-.0000001Y0", 2),
+        (8, "X-0Y-0.0000000", 5),
+    ]);
+}
+
+#[test]
+fn columns_of_numbers_with_over_six_decimals() {
+    refused_for_ranges(&[
+        (8, "X1.0000000Y0", 2),
+        (8, "X0Y1.0000000", 4),
+        (8, "X.1234567Y1000", 2),
+        (8, "X1000Y.1234567", 2),
+        (8, "X.123456Y.1234567", 10),
+        (8, "X999.999999Y999.9999990", 13),
+        (8, "X0Y0.0000000", 4),
+    ]);
+}
+
+/// Every choice of one way to write each number of a line, its column found while the line is put
+/// together: the first number that is chosen out of range.
+#[test]
+fn columns_of_all_choices_of_numbers() {
+    type Ways = &'static [(&'static str, bool)];
+    const COORDINATE: Ways = &[
+        ("1", true),
+        ("-2.50", true),
+        ("+.5", true),
+        ("-00999.999999", true),
+        ("1000", false),
+        ("-1000.", false),
+        ("+0.0000000", false),
+        ("-.1234567", false),
+    ];
+    const SIZE: Ways =
+        &[("1", true), ("00.000001", true), ("0", false), (".0", false), ("1000", false)];
+    const TOOL: Ways = &[("01", true), ("99", true), ("00", false)];
+    const SELECTED: Ways = &[("1", true), ("01", true), ("0", false), ("00", false)];
+    let kinds: [(usize, &[(&str, Ways)]); 7] = [
+        (3, &[("T", TOOL), ("C", SIZE)]),
+        (7, &[("T", SELECTED)]),
+        (8, &[("X", COORDINATE), ("Y", COORDINATE)]),
+        (10, &[("G00X", COORDINATE), ("Y", COORDINATE)]),
+        (12, &[("G01X", COORDINATE), ("Y", COORDINATE)]),
+        (13, &[("G02X", COORDINATE), ("Y", COORDINATE), ("A", SIZE)]),
+        (13, &[("G03X", COORDINATE), ("Y", COORDINATE), ("A", SIZE)]),
+    ];
+    let mut refused = 0;
+    for (line, parts) in kinds {
+        let choices: usize = parts.iter().map(|(_, ways)| ways.len()).product();
+        for mut choice in 0..choices {
+            let mut text = String::new();
+            let mut column = None;
+            for (letters, ways) in parts {
+                text += letters;
+                let (number, good) = ways[choice % ways.len()];
+                choice /= ways.len();
+                if !good {
+                    column.get_or_insert(text.len() as u32 + 1);
+                }
+                text += number;
+            }
+            match column {
+                Some(column) => {
+                    refused_for_ranges(&[(line, &text, column)]);
+                    refused += 1;
+                }
+                None => assert_ne!(edited(line, &text).0, 7, "{text}"),
+            }
+        }
+    }
+    // All choices but those whose numbers are all good.
+    assert_eq!(refused, (15 - 4) + (4 - 2) + 3 * (64 - 16) + 2 * (320 - 32));
+}
+
+#[test]
+fn ranges_have_their_column_whatever_the_phase() {
+    refused_for_ranges(&[
+        (1, "X0Y1000", 4),
+        (2, "G03X0Y0A0", 9),
+        (3, "G00X0Y-1000", 7),
+        (8, "T01C0", 5),
+        (12, "T00", 2),
+        (15, "T99C1000", 5),
+    ]);
+    let late = BENCH.to_owned() + "X0Y1000\n";
+    assert_eq!(verdict(late.as_bytes()), (7, 16, 4));
+}
+
+/// Bytes that are forbidden in a line and end none.
+const FORBIDDEN: [u8; 9] = [0, 9, 11, 27, 31, 127, 128, 195, 255];
+
+/// `text` with a byte put in before the given index.
+fn with_byte(text: &str, index: usize, byte: u8) -> Vec<u8> {
+    let (front, back) = text.as_bytes().split_at(index);
+    [front, &[byte], back].concat()
+}
+
+#[test]
+fn columns_of_forbidden_bytes() {
+    for byte in FORBIDDEN {
+        for (text, index, column) in [
+            ("", 0, 1),
+            ("X1Y1", 0, 1),
+            ("X1Y1", 2, 3),
+            ("X1Y1", 4, 5),
+            (";comment", 1, 2),
+            (";;", 2, 3),
+            ("no command", 2, 3),
+            ("M30", 3, 4),
+        ] {
+            assert_eq!(refusal(8, &with_byte(text, index, byte)), (4, 8, column), "{byte} {text}");
+        }
+    }
+}
+
+#[test]
+fn every_byte_outside_32_to_126_has_its_column() {
+    for byte in (0..=255).filter(|byte| !matches!(byte, 10 | 13)) {
+        let text = [b';', b'a', byte, b'b'];
+        match byte {
+            b';' => assert_eq!(refusal(8, &text), (5, 8, 0)),
+            32..=126 => assert_eq!(verdict(&replaced_bytes(8, &text)), (0, 15, 0)),
+            _ => assert_eq!(refusal(8, &text), (4, 8, 3), "{byte}"),
+        }
+    }
+}
+
+#[test]
+fn forbidden_bytes_come_before_ranges_on_either_side() {
+    for byte in FORBIDDEN {
+        for (text, index, column) in [
+            ("X1000Y1", 0, 1),
+            ("X1000Y1", 1, 2),
+            ("X1000Y1", 3, 4),
+            ("X1000Y1", 5, 6),
+            ("X1000Y1", 7, 8),
+            ("G03X6.0Y1600A1.0", 7, 8),
+            ("G03X6.0Y1600A1.0", 8, 9),
+            ("G03X6.0Y1600A1.0", 12, 13),
+            ("G03X6.0Y1600A1.0", 16, 17),
+            ("T00", 1, 2),
+            ("T00", 3, 4),
+            ("T00C0", 4, 5),
+        ] {
+            assert_eq!(refusal(8, &with_byte(text, index, byte)), (4, 8, column), "{byte} {text}");
+        }
+    }
+}
+
+#[test]
+fn columns_of_several_forbidden_bytes() {
+    assert_eq!(refusal(8, b"X\x7f1\x80Y\xff"), (4, 8, 2));
+    assert_eq!(refusal(8, b"\0\0"), (4, 8, 1));
+    assert_eq!(refusal(8, b"X1Y1\xff\x1f"), (4, 8, 5));
+    assert_eq!(refusal(8, b"X1000\xff\tY1000\0"), (4, 8, 6));
+    // Bytes are counted, not letters.
+    assert_eq!(refusal(8, "; 2 \u{b5}m".as_bytes()), (4, 8, 5));
+    assert_eq!(refusal(8, "\u{b5}".as_bytes()), (4, 8, 1));
+    assert_eq!(refusal_by(Rev2019, 3, b"T1C\x7f"), (4, 3, 4));
+    assert_eq!(refusal_by(Rev2019, 3, b"T0C0\t"), (4, 3, 5));
+}
+
+#[test]
+fn columns_of_carriage_returns() {
+    for (text, column) in [
+        ("\rX1Y1", 1),
+        ("X1\rY1", 3),
+        ("X1Y\r1", 4),
+        ("X1000\rY1", 6),
+        ("X1Y1\r\r", 5),
+        ("X1Y1\r\r\r", 5),
+        ("\r\r", 1),
+        ("\r \r", 1),
+        ("X1\rY1\r", 3),
+        ("X1\rY1\t", 3),
+        ("X1\tY1\r\r", 3),
+    ] {
+        let file = replaced_bytes(8, text.as_bytes());
+        for revision in BOTH {
+            assert_eq!(verdict_by(revision, &file), (4, 8, column), "{text:?}");
+            assert_eq!(print(&file, revision), printed_refusal((4, 8, column)));
+            let mut table = bench();
+            let answer = edit(&mut table, BENCH_LINES, 8, text.as_bytes(), revision);
+            assert_eq!(answer, (17, 0, 0), "{text:?}");
+        }
+    }
+    // The one right before the LF is no byte of the line.
+    assert_eq!(verdict(&replaced_bytes(8, b"X1Y1\r")), (0, 15, 0));
+    assert_eq!(verdict(&replaced_bytes(8, b"X0Y1000\r")), (7, 8, 4));
+    assert_eq!(verdict(&replaced_bytes(8, b"\r")), (5, 8, 0));
+}
+
+#[test]
+fn columns_up_to_256() {
+    for byte in FORBIDDEN {
+        for length in [2, 100, 255, 256] {
+            let text = with_byte(&";".repeat(length - 1), length - 1, byte);
+            assert_eq!(refusal(8, &text), (4, 8, length as u32));
+        }
+        assert_eq!(refusal(8, &with_byte(&";".repeat(256), 256, byte)), (6, 8, 0));
+        assert_eq!(refusal(8, &with_byte(&";".repeat(256), 0, byte)), (6, 8, 0));
+    }
+    for index in 0..256 {
+        let text = with_byte(&"c".repeat(255), index, 127);
+        assert_eq!(refusal(8, &text), (4, 8, index as u32 + 1));
+    }
+    let comment = |length| format!(";{}\r\r", "c".repeat(length));
+    assert_eq!(verdict(&replaced_bytes(8, comment(254).as_bytes())), (4, 8, 256));
+    assert_eq!(verdict(&replaced_bytes(8, comment(255).as_bytes())), (6, 8, 0));
+
+    // X, 250 digits, Y, and a number of four: 256 bytes. With 251 zeros before it one too many.
+    let hit = |zeros| format!("X{}Y1000", "0".repeat(zeros));
+    assert_eq!(refusal(8, hit(250).as_bytes()), (7, 8, 253));
+    assert_eq!(refusal(8, hit(251).as_bytes()), (6, 8, 0));
+    let arc = format!("G03X0Y0{}A0", "0".repeat(247));
+    assert_eq!(refusal(13, arc.as_bytes()), (7, 13, 256));
+}
+
+#[test]
+fn reading_names_no_column_for_others() {
+    for revision in BOTH {
+        let no_column = |file: &[u8], number, line| {
+            assert_eq!(verdict_by(revision, file), (number, line, 0), "{}", file.escape_ascii());
+            assert_eq!(print(file, revision), printed_refusal((number, line, 0)));
+        };
+        no_column(&[127; MAX_FILE + 1], 1, 0);
+        let lines = |last: &str| format!("M48\nMETRIC\n%\n{}{last}", ";\n".repeat(997));
+        no_column(lines("X1000Y1\n").as_bytes(), 2, 1_001);
+        no_column(lines("\t").as_bytes(), 2, 1_001);
+        no_column(b"M48\nX1000Y1", 3, 2);
+        no_column(b"M48\n\t", 3, 2);
+        no_column(b"M48\n\r", 3, 2);
+        no_column(&replaced_bytes(8, b""), 5, 8);
+        no_column(&replaced_bytes(8, b"X1000Yq"), 5, 8);
+        no_column(&replaced_bytes(8, b"X1000Y1 "), 5, 8);
+        no_column(&replaced_bytes(8, b"T00C"), 5, 8);
+        no_column(&replaced_bytes(8, b"T000"), 5, 8);
+        no_column(&replaced_bytes(8, b"G03X1000Y1A-1"), 5, 8);
+        no_column(&replaced_bytes(8, &[b'\t'; 257]), 6, 8);
+        no_column(&replaced_bytes(8, b"METRIC"), 8, 8);
+        no_column(&replaced_bytes(4, b"T01C1"), 9, 4);
+        no_column(&replaced_bytes(7, b"T2"), 10, 7);
+        no_column(&replaced_bytes(7, b";"), 11, 8);
+        no_column(&replaced_bytes(8, b"M16"), 12, 8);
+        no_column(&replaced_bytes(13, b"G03X8Y0A1.9"), 13, 13);
+        no_column(&replaced_bytes(15, b";"), 14, 16);
+        no_column(b"", 14, 1);
+        assert_eq!(read(BENCH.as_bytes(), revision, &mut []), (15, 0, 0));
+    }
+}
+
+#[test]
+fn the_lowest_faulty_line_has_its_own_column() {
+    let file = |a: &str, b: &str| BENCH.replace("T1\n", a).replace("X2Y-3.5\n", b);
+    assert_eq!(verdict(file("T0\n", "X2\tY3\n").as_bytes()), (7, 7, 2));
+    assert_eq!(verdict(file("T1\t\n", "X2Y1000\n").as_bytes()), (4, 7, 3));
+    assert_eq!(verdict(file("T2\n", "X2Y1000\n").as_bytes()), (10, 7, 0));
+    assert_eq!(verdict(file("T1\n", "X2Y1000\n").as_bytes()), (7, 8, 4));
+    // A line that is faulty in a table lent too short.
+    assert_eq!(read(file("T0\n", "X2Y3\n").as_bytes(), Rev2021, &mut []), (7, 7, 2));
+}
+
+#[test]
+fn editing_names_no_column_for_others() {
+    for revision in BOTH {
+        for (line, text, expected) in [
+            (8, "", (5, 8, 0)),
+            (8, "X1000Yq", (5, 8, 0)),
+            (8, &"\t".repeat(257), (6, 8, 0)),
+            (8, "METRIC", (8, 8, 0)),
+            (4, "T01C1", (9, 4, 0)),
+            (7, "T2", (10, 7, 0)),
+            (7, ";", (11, 8, 0)),
+            (6, ";", (12, 8, 0)),
+            (12, "G01X0Y9", (13, 13, 0)),
+            (15, ";", (14, 16, 0)),
+        ] {
+            assert_eq!(refusal_by(revision, line, text.as_bytes()), expected, "{text}");
+        }
+        // What comes before the text's own refusals.
+        for text in [&b"X1000Y1"[..], b"X\t1Y1", b"T00"] {
+            let mut table = bench();
+            let ended = [text, b"\n"].concat();
+            assert_eq!(edit(&mut table, 0, 8, text, revision), (18, 0, 0));
+            assert_eq!(edit(&mut table, BENCH_LINES, 16, text, revision), (16, 0, 0));
+            assert_eq!(edit(&mut table, BENCH_LINES, 8, &ended, revision), (17, 0, 0));
+            table[7 * ROW] = 16;
+            assert_eq!(edit(&mut table, BENCH_LINES, 8, text, revision), (18, 8, 0));
+            assert_eq!(edit(&mut table, BENCH_LINES, 9, text, revision), (18, 8, 0));
+        }
+    }
+}
+
+#[test]
+fn questions_and_writing_name_no_column() {
+    let mut table = bench();
+    assert_eq!(hole(&table, 0, 8, &mut [0; 7]), (18, 0, 0));
+    assert_eq!(hole(&table, BENCH_LINES, 16, &mut [0; 7]), (16, 0, 0));
+    assert_eq!(hole(&table, BENCH_LINES, 8, &mut []), (15, 0, 0));
+    assert_eq!(write(&table, BENCH_LINES, &mut []), (15, 0, 0));
+    // Of a tool that is asked for there is no text, so no column either.
+    assert_eq!(diameter(&table, BENCH_LINES, 0), (7, 0, 0));
+    assert_eq!(diameter(&table, BENCH_LINES, 100), (7, 0, 0));
+    assert_eq!(diameter(&table, BENCH_LINES, 2), (10, 0, 0));
+    // Nor has a number out of range in a table.
+    table[7 * ROW + 2] = MAX + 1;
+    assert_eq!(hole(&table, BENCH_LINES, 8, &mut [0; 7]), (18, 8, 0));
+    assert_eq!(write(&table, BENCH_LINES, &mut []), (18, 8, 0));
+}
+
+#[test]
+fn refused_lines_are_printed_with_their_columns() {
+    for revision in BOTH {
+        let print = |line, text| print(replaced(line, text).as_bytes(), revision);
+        assert_eq!(print(13, "G03X6.0Y1600A1.0"), b"refused\t7\t13\t9\n");
+        assert_eq!(print(3, "T00C1"), b"refused\t7\t3\t2\n");
+        assert_eq!(print(8, "X1\tY1"), b"refused\t4\t8\t3\n");
+        assert_eq!(print(8, "X1Y1\r\r"), b"refused\t4\t8\t5\n");
+        assert_eq!(print(8, "X1Yq"), b"refused\t5\t8\t0\n");
+        assert_eq!(print(15, ";"), b"refused\t14\t16\t0\n");
+    }
+    assert_eq!(print(replaced(3, "T0C1").as_bytes(), Rev2019), b"refused\t7\t3\t2\n");
+    assert_eq!(print(replaced(3, "T0C1").as_bytes(), Rev2021), b"refused\t5\t3\t0\n");
+}
+
+#[test]
+fn refused_moves_are_printed_with_their_columns() {
+    let moves = |first: &str, file: &str, revision| {
+        String::from_utf8(print_moves(format!("{first}\n{file}").as_bytes(), revision)).unwrap()
+    };
+    let bad = replaced(8, "X0Y1000");
+    for revision in BOTH {
+        // The column is the new text's, not that of the input's first line.
+        assert_eq!(moves("13\tG03X6.0Y1600A1.0", BENCH, revision), "refused\t7\t13\t9\n");
+        assert_eq!(moves("013\tG03X6.0Y1600A1.0", BENCH, revision), "refused\t7\t13\t9\n");
+        assert_eq!(moves("8\tX1\tY1", BENCH, revision), "refused\t4\t8\t3\n");
+        assert_eq!(moves("8\t\t", BENCH, revision), "refused\t4\t8\t1\n");
+        assert_eq!(moves("8\tX1Y1\t\r", BENCH, revision), "refused\t4\t8\t5\n");
+        assert_eq!(moves("8\tX1Y1\r\r", BENCH, revision), "refused\t17\t0\t0\n");
+        assert_eq!(moves("16\tX1000Y1", BENCH, revision), "refused\t16\t0\t0\n");
+        assert_eq!(moves("X1000Y1", BENCH, revision), "refused\t16\t0\t0\n");
+        assert_eq!(moves("6\t;", BENCH, revision), "refused\t12\t8\t0\n");
+        // The file is refused before what is asked of it.
+        assert_eq!(moves("8\tX1\tY1", &bad, revision), "refused\t7\t8\t4\n");
+        assert_eq!(moves("99\t", &bad, revision), "refused\t7\t8\t4\n");
+    }
+    assert_eq!(moves("3\tT1C0", BENCH, Rev2019), "refused\t7\t3\t4\n");
+    assert_eq!(moves("3\tT1C0", BENCH, Rev2021), "refused\t5\t3\t0\n");
+}
+
+/// All short texts over a few bytes: a column is named by 4 and 7 and by no other.
+#[test]
+fn columns_of_all_short_texts() {
+    const BYTES: &[u8] = b"XYTC01.-;\x7f";
+    let mut table = bench();
+    for length in 0..=5 {
+        for mut choice in 0..BYTES.len().pow(length) {
+            let mut text = Vec::new();
+            for _ in 0..length {
+                text.push(BYTES[choice % BYTES.len()]);
+                choice /= BYTES.len();
+            }
+            for revision in BOTH {
+                let (number, line, column) = edit(&mut table, BENCH_LINES, 3, &text, revision);
+                let before = &text[..(column as usize).saturating_sub(1)];
+                match number {
+                    4 => {
+                        assert_eq!(text[column as usize - 1], 127);
+                        assert!(!before.contains(&127));
+                    }
+                    // So short a number is out of range as a tool's or a diameter's only.
+                    7 if before == b"T" => assert_eq!(text[1], b'0'),
+                    7 => assert!(before.starts_with(b"T") && before.ends_with(b"C")),
+                    _ => assert_eq!(column, 0),
+                }
+                assert!(!matches!(number, 4 | 7) || line == 3);
+            }
+        }
+    }
 }

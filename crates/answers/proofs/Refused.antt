@@ -1,11 +1,11 @@
 -- Which refusals come, and at which lines: a property of a refusal and its line that each one which can come has is one of that
 -- which comes. One walk through reading, editing, writing and asking.
-use mathlib.Core.Path.{_≡_, subst}
-use mathlib.Core.List.{List, [], _∷_}
+use mathlib.Core.Path.{_≡_, ap, subst}
+use mathlib.Core.List.{List, [], _∷_, _++_}
 use Prim.Native.Nat.{ℕ, _+_, _-_, _≤_}
 use native.Mathlib.Omega.{arith}
 use lib.IntN.{ℤ}
-use lib.ListN.{length, drop, length-drop}
+use lib.ListN.{length, drop, length-append, length-drop}
 use Rattle.lists.proofs.Choice.{cond-all}
 use Rattle.runs.specs.Machine.{stops, Verdict, accepted, refused, Row, Entry, holds, bad, Span, widen, rerun, follow, before}
 use Rattle.runs.proofs.Ways.{out-all}
@@ -17,8 +17,8 @@ use Rattle.rules.specs.declared.HoleAnswer.the-variants as H
 use Rattle.rules.specs.declared.DiameterAnswer.{DiameterAnswer}
 use Rattle.rules.specs.declared.DiameterAnswer.the-variants as D
 use Rattle.rules.specs.declared.Revision.{Revision}
-use Rattle.rules.specs.Refusals.{fileTooLong, tooManyLines, lineNotEnded, lineTooLong, forbiddenByte, noSuchForm, outOfRange, wrongPhase, wrongMotion, declaredAlready, notDeclared, noToolSelected, impossibleArc, endsTooSoon, noSuchLine, holdsLineEnd, badTable}
-use Rattle.rules.specs.Numbers.{maxLines, isTool}
+use Rattle.rules.specs.Refusals.{fileTooLong, tooManyLines, lineNotEnded, lineTooLong, forbiddenByte, noSuchForm, outOfRange, wrongPhase, wrongMotion, declaredAlready, notDeclared, noToolSelected, impossibleArc, endsTooSoon, noSuchLine, noSuchTool, holdsLineEnd, badTable}
+use Rattle.rules.specs.Numbers.{maxLines, maxLine, isTool}
 use Rattle.rules.specs.Commands.{lineOf}
 use Rattle.rules.specs.State.{start, taken, hasEnded, sameState}
 use Rattle.rules.specs.Rows.{entriesOf, sizesFit}
@@ -30,7 +30,8 @@ use Rattle.laws.proofs.Sizes.{sizes-say}
 use Rattle.laws.proofs.Sizes as Sizes
 use Rattle.laws.proofs.Entries.{entries-length}
 use Rattle.laws.proofs.Ways.{before-all, row-all, declared-all, hole-all}
-use Rattle.obeys.specs.Faults.{Untaken, wrong-phase, wrong-motion, declared, undeclared, hit-without, down-without, g02-impossible, g03-impossible, LineRefused, too-long, forbidden, no-form, no-command, Fault, missing, too-many, not-ended, unread, untaken, Faulty, too-large, at-line}
+use Rattle.obeys.specs.Faults.{Untaken, wrong-phase, wrong-motion, declared, undeclared, hit-without, down-without, g02-impossible, g03-impossible, LineRefused, too-long, forbidden, no-form, out-of-range, Fault, missing, too-many, not-ended, unread, untaken, Faulty, too-large, at-line}
+use Rattle.obeys.proofs.Ranges.{out-within}
 use Rattle.obeys.proofs.Lines.{line-says}
 use Rattle.obeys.proofs.Files.{taken-refused}
 
@@ -49,12 +50,12 @@ abbrev pub DiameterTold : (Refusal → ℕ → Type 0) → DiameterAnswer → Ty
 DiameterTold P (D.Is d) = Unit {0}
 DiameterTold P (D.Refused e i) = P e i
 
--- of those of a line's bytes, and of a step
+-- of those of a line's bytes, where a column lies in the longest line; and of a step
 pub record OfLine (P : Refusal → Type 0) : Type 0 where
   pub long : P lineTooLong
-  pub byte : P forbiddenByte
+  pub byte : (c : ℕ) → 1 ≤ c → c ≤ maxLine → P (forbiddenByte c)
   pub form : P noSuchForm
-  pub range : P outOfRange
+  pub range : (c : ℕ) → 1 ≤ c → c ≤ maxLine → P (outOfRange c)
 
 pub record OfStep (P : Refusal → Type 0) : Type 0 where
   pub phase : P wrongPhase
@@ -75,9 +76,11 @@ pub record OfRows (P : Refusal → ℕ → Type 0) (n : ℕ) : Type 0 where
 module _ (P : Refusal → Type 0) (h : OfLine P) where
   refused-of : {rev : Revision} {l : List ℕ} {e : Refusal} → LineRefused rev l e → P e
   refused-of (too-long n) = h .long
-  refused-of (forbidden s n) = h .byte
+  refused-of {l = l} (forbidden rest {a = a} {b = b} s e p n) =
+      let k : length l ≡ length (a ++ (b ∷ rest)) = ap length e in
+      h .byte (length a + 1) (omega arith) (omega (arith, k, length-append a (b ∷ rest)))
   refused-of (no-form s p n) = h .form
-  refused-of (no-command s p w n) = h .range
+  refused-of (out-of-range {c = c} s p w o) = let k = out-within w o in h .range c (k .0) (omega (arith, k .1))
 
 -- ---- a step
 
@@ -193,7 +196,7 @@ module _ (P : Refusal → ℕ → Type 0) (t : List ℤ) (n : ℕ) (sizes : P ba
         (λ z. row-all (HoleTold P) (entryAt (entriesOf n t) k) (o k (p .1)) (λ r. hole-all (HoleTold P) (z .at) (r .state) (r .command) tt (λ _. tt))))
         (λ _. a)) (λ _. sizes)
 
-    pub diameter-of-told : (tool : ℕ) → P outOfRange 0 → P notDeclared 0 → DiameterTold P (diameterAnswer t n tool)
+    pub diameter-of-told : (tool : ℕ) → P noSuchTool 0 → P notDeclared 0 → DiameterTold P (diameterAnswer t n tool)
     unfolding diameterAnswer
     diameter-of-told tool a b =
         cond-all (DiameterTold P) (sizesFit t n)

@@ -15,7 +15,8 @@ use Rattle.rules.specs.declared.Command.the-variants as K
 use Rattle.rules.specs.declared.LineAnswer.{LineAnswer}
 use Rattle.rules.specs.declared.Revision.{Revision}
 use Rattle.rules.specs.Refusals.{noSuchForm}
-use Rattle.rules.specs.Commands.{Form, m48, metric, m15, m16, m30, Formed, is, no-form, atEnd, pointForm, formOf, says, saysNo, meaningOf, onForm, commandOf}
+use Rattle.rules.specs.Commands.{Form, m48, metric, m15, m16, m30, Formed, is, no-form, atEnd, pointForm, toolForm, formOf, columnAfter, says, saysNo, meaningOf, onForm, commandOf}
+use Rattle.rules.proofs.Columns.{same-columns}
 use Rattle.command.specs.declared.Pointed.the-variants as P
 use Rattle.command.specs.declared.Code.{Code}
 use Rattle.command.specs.declared.Code.the-variants as D
@@ -57,9 +58,15 @@ module _ (rev : Revision) (s : List ℕ) (h : length s ≡ 0 → ⊥) where
   first-is e = ap (commandOf rev) (first e)
 
   -- a hit's X belongs to its point
-  pub first-x : getD s 0 0 ≡ code "X" → onForm (pointForm (drop 0 s) (pointed P.Hit)) ≡ commandOf rev s
+  pub first-x : getD s 0 0 ≡ code "X" → onForm (columnAfter 0 (drop 0 s)) (pointForm (drop 0 s) (pointed P.Hit)) ≡ commandOf rev s
   unfolding commandOf formOf startsWith
-  first-x e = subst (λ (l : List ℕ). onForm (pointForm l (pointed P.Hit)) ≡ commandOf rev l) (first e) refl
+  first-x e = subst (λ (l : List ℕ). onForm (columnAfter 0 l) (pointForm l (pointed P.Hit)) ≡ commandOf rev l) (first e) refl
+
+  -- behind its T no other letter has passed
+  pub first-t : getD s 0 0 ≡ code "T" → onForm (columnAfter 1 (drop 1 s)) (toolForm rev (drop 1 s)) ≡ commandOf rev s
+  unfolding commandOf formOf startsWith columnAfter
+  first-t e =
+      same-columns (columnAfter 1 (drop 1 s)) (columnAfter 0 (code "T" ∷ drop 1 s)) refl refl refl refl (toolForm rev (drop 1 s)) ∙ first-is e
 
   pub first-other : NoneOf (bytes "I;%TMGX") (getD s 0 0) → saysNo noSuchForm ≡ commandOf rev s
   first-other n = no-letter rev (getD s 0 0) (drop 1 s) n ∙ first-is refl
@@ -70,19 +77,19 @@ abbrev codeAnswer : CodeRead → LineAnswer
 codeAnswer (M.Is k) = says (codeCommand k)
 codeAnswer M.None = saysNo noSuchForm
 
-code-by : (t : Bool) (f : Form) (k : Code) (x : Formed) (y : CodeRead) → meaningOf f ≡ says (codeCommand k) → onForm x ≡ codeAnswer y
-    → onForm (cond t (is f) x) ≡ codeAnswer (cond t (M.Is k) y)
-code-by true f k x y e q = e
-code-by false f k x y e q = q
+code-by : (after : ℕ → ℕ) (t : Bool) (f : Form) (k : Code) (x : Formed) (y : CodeRead) → meaningOf after f ≡ says (codeCommand k)
+    → onForm after x ≡ codeAnswer y → onForm after (cond t (is f) x) ≡ codeAnswer (cond t (M.Is k) y)
+code-by after true f k x y e q = e
+code-by after false f k x y e q = q
 
 m-two : (rev : Revision) (a b : ℕ) → commandOf rev (code "M" ∷ a ∷ b ∷ []) ≡ codeAnswer (codeOf a b)
 unfolding commandOf formOf startsWith codeOf meaningOf
 m-two rev a b =
     simp (and-true, and-false)
-    (code-by (eqb a (code "4") && eqb b (code "8")) m48 D.M48 _ _ refl
-    (code-by (eqb a (code "1") && eqb b (code "5")) m15 D.M15 _ _ refl
-    (code-by (eqb a (code "1") && eqb b (code "6")) m16 D.M16 _ _ refl
-    (code-by (eqb a (code "3") && eqb b (code "0")) m30 D.M30 no-form M.None refl refl))))
+    (code-by _ (eqb a (code "4") && eqb b (code "8")) m48 D.M48 _ _ refl
+    (code-by _ (eqb a (code "1") && eqb b (code "5")) m15 D.M15 _ _ refl
+    (code-by _ (eqb a (code "1") && eqb b (code "6")) m16 D.M16 _ _ refl
+    (code-by _ (eqb a (code "3") && eqb b (code "0")) m30 D.M30 no-form M.None refl refl))))
 
 pub m-code : (rev : Revision) (s : List ℕ) → length s ≡ 3 → {r v : CodeRead} → r ≡ codeOf (getD s 1 0) (getD s 2 0) → r ≡ v → codeAnswer v ≡ commandOf rev (code "M" ∷ drop 1 s)
 m-code rev [] h e g = absurd (omega arith)
@@ -115,7 +122,7 @@ m-form rev (x ∷ a ∷ b ∷ d ∷ l) h =
 
 pub m-word : (rev : Revision) (s : List ℕ) → (length s ≡ 3 → ⊥) → word (drop 1 s) (bytes "ETRIC") K.Metric ≡ commandOf rev (code "M" ∷ drop 1 s)
 unfolding commandOf meaningOf
-m-word rev s h = word-is (drop 1 s) (bytes "ETRIC") metric K.Metric refl ∙ ap onForm (sym (m-form rev s h))
+m-word rev s h = word-is (columnAfter 0 (code "M" ∷ drop 1 s)) (drop 1 s) (bytes "ETRIC") metric K.Metric refl ∙ ap (onForm (columnAfter 0 (code "M" ∷ drop 1 s))) (sym (m-form rev s h))
 
 -- ---- G
 
@@ -147,6 +154,21 @@ module _ (rev : Revision) (s : List ℕ) (h : 3 ≤ length s) where
 
   pub g-is : {a b : ℕ} → getD s 1 0 ≡ a → getD s 2 0 ≡ b → commandOf rev (code "G" ∷ a ∷ b ∷ drop 3 s) ≡ commandOf rev (code "G" ∷ drop 1 s)
   g-is e q = rw (three, e, q)
+
+  -- nor behind G and two digits
+  column-past : (a b c : ℕ) → a ≤ code "9" → b ≤ code "9" → code "A" ≤ c → (code "G" ≡ c → ⊥)
+      → columnAfter 3 (drop 3 s) c ≡ columnAfter 0 (code "G" ∷ a ∷ b ∷ drop 3 s) c
+  unfolding columnAfter
+  column-past a b c p q h n = rw (ne-eqb (code "G") c n, ne-eqb a c (omega arith), ne-eqb b c (omega arith))
+
+  pub g-form : {a b : ℕ} {f : Formed} → a ≤ code "9" → b ≤ code "9" → formOf rev (code "G" ∷ a ∷ b ∷ drop 3 s) ≡ f → getD s 1 0 ≡ a → getD s 2 0 ≡ b
+      → onForm (columnAfter 3 (drop 3 s)) f ≡ commandOf rev (code "G" ∷ drop 1 s)
+  unfolding commandOf
+  g-form {a} {b} {f} p q g e d =
+      same-columns (columnAfter 3 (drop 3 s)) (columnAfter 0 (code "G" ∷ a ∷ b ∷ drop 3 s))
+      (column-past a b (code "X") p q (omega arith) (omega arith)) (column-past a b (code "Y") p q (omega arith) (omega arith))
+      (column-past a b (code "A") p q (omega arith) (omega arith)) (column-past a b (code "C") p q (omega arith) (omega arith)) f
+      ∙ ap (onForm (columnAfter 0 (code "G" ∷ a ∷ b ∷ drop 3 s))) (sym g) ∙ g-is e d
 
   pub g-no-zero : (getD s 1 0 ≡ code "0" → ⊥) → saysNo noSuchForm ≡ commandOf rev (code "G" ∷ drop 1 s)
   g-no-zero p = no-zero rev (getD s 1 0) (getD s 2 0 ∷ drop 3 s) p ∙ g-is refl refl

@@ -1,20 +1,22 @@
 -- T, a tool number, and the diameter that declares it: the digits are counted first, and then the ranges are asked.
-use mathlib.Core.Path.{_≡_, refl, sym, ap, _∙_}
+use mathlib.Core.Path.{_≡_, refl, sym, ap, subst, _∙_}
 use mathlib.Core.Bool.{Bool, true, false, cond}
-use mathlib.Core.List.{List}
+use mathlib.Core.List.{List, [], _∷_}
 use Prim.Native.Nat.{ℕ, _+_, _-_, _≤_}
+use Prim.Native.Char.{code}
 use native.Mathlib.Omega.{arith}
 use borrow.Author.Tests.{le-leb}
-use lib.ListN.{length, drop}
+use lib.ListN.{length, drop, length-drop}
 use lib.Seq.{drop-drop}
 use Rattle.lists.specs.Words.{bytes, startsWith}
 use Rattle.rules.specs.declared.Command.the-variants as K
 use Rattle.rules.specs.declared.LineAnswer.{LineAnswer}
 use Rattle.rules.specs.declared.Revision.{Revision}
 use Rattle.rules.specs.Refusals.{noSuchForm, outOfRange}
-use Rattle.rules.specs.Numbers.{maxTool, digitsOf, unsignedOf, isTool, isSize, millionths}
-use Rattle.rules.specs.Commands.{fewestDeclared, fewestSelected, toolDigits, declare, select, atEnd, toolForm, says, saysNo, inRange, meaningOf, onForm}
+use Rattle.rules.specs.Numbers.{maxTool, digitsOf, NumberRead, got, no-number, onNumber, unsignedOf, isTool, isSize, millionths}
+use Rattle.rules.specs.Commands.{fewestDeclared, fewestSelected, toolDigits, declare, select, no-form, atEnd, toolForm, columnAfter, toolColumn, says, saysNo, inRange, meaningOf, onForm}
 use Rattle.rules.proofs.Revisions.{fit-digits}
+use Rattle.rules.proofs.Columns.{Tail, tail-length, tail-column, digits-tail}
 use Rattle.number.specs.declared.Run.{Run}
 use Rattle.number.specs.declared.Written.{Written}
 use Rattle.number.specs.declared.Number.{Number}
@@ -22,9 +24,9 @@ use Rattle.number.specs.declared.Number.the-variants as W
 use Rattle.number.specs.declared.SizeRead.{SizeRead}
 use Rattle.number.specs.declared.SizeRead.the-variants as S
 use Rattle.number.specs.Capped.{heldRun, numberAt, decimalOf, sizeRead}
-use Rattle.number.proofs.Runs.{count-at, run-next, run-rest, short-run}
+use Rattle.number.proofs.Runs.{count-at, run-next, run-rest, short-run, stands-within}
 use Rattle.command.specs.Parts.{declareAt}
-use Rattle.command.proofs.Points.{ended-is, ended-no, size-none, size-read, size-goes-on, size-ends, size-same}
+use Rattle.command.proofs.Points.{ended-is, ended-no, size-none, size-read, size-goes-on, size-ends, size-same, column-here}
 
 is-tool : (t : ℕ) → (t ≡ 0 → ⊥) → t ≤ maxTool → isTool t ≡ true
 unfolding isTool
@@ -38,32 +40,43 @@ no-tool t e = rw e
 
 abbrev declareAnswer : ℕ → SizeRead → LineAnswer
 declareAnswer t (S.Is d) = says (K.Declare t d)
-declareAnswer t S.Out = saysNo outOfRange
+declareAnswer t (S.Out e) = saysNo e
 
-declare-by : (t : ℕ) (b : Bool) (n : ℕ) → inRange b (K.Declare t n) ≡ declareAnswer t (cond b (S.Is n) S.Out)
+declare-by : (t : ℕ) (b : Bool) (n c : ℕ) → inRange b c (says (K.Declare t n)) ≡ declareAnswer t (cond b (S.Is n) (S.Out (outOfRange c)))
 unfolding inRange
-declare-by t true n = refl
-declare-by t false n = refl
+declare-by t true n c = refl
+declare-by t false n c = refl
 
-module _ (s : List ℕ) (at t : ℕ) {r : Number} (e : r ≡ numberAt (length s) (unsignedOf (drop at s))) where
-  pub declare-none : r ≡ W.None → saysNo noSuchForm ≡ onForm (declareAt (drop at s) t)
+module _ (s : List ℕ) (at t : ℕ) {r : Number} (e : r ≡ numberAt (at + 1) (length s) (unsignedOf (drop at s))) where
+  pub declare-none : r ≡ W.None → saysNo noSuchForm ≡ onForm (λ _. at + 1) (declareAt (drop at s) t)
   declare-none g = rw (size-none s at e g (declare t))
 
   module _ {d : Written} (g : r ≡ W.Got d) where
-    pub declare-goes-on : (d .next ≡ length s → ⊥) → saysNo noSuchForm ≡ onForm (declareAt (drop at s) t)
+    pub declare-goes-on : (d .next ≡ length s → ⊥) → saysNo noSuchForm ≡ onForm (λ _. at + 1) (declareAt (drop at s) t)
     declare-goes-on n = rw (size-goes-on s at e g n (declare t))
 
     module _ (n : d .next ≡ length s) where
-      pub declare-zero : t ≡ 0 → saysNo outOfRange ≡ onForm (declareAt (drop at s) t)
+      pub declare-zero : t ≡ 0 → saysNo (outOfRange toolColumn) ≡ onForm (λ _. at + 1) (declareAt (drop at s) t)
       unfolding meaningOf inRange
       declare-zero z = rw (size-ends s at e g n (declare t), no-tool t z)
 
-      pub declare-ends : (t ≡ 0 → ⊥) → t ≤ maxTool → {z v : SizeRead} → z ≡ sizeRead (decimalOf d) → z ≡ v → declareAnswer t v ≡ onForm (declareAt (drop at s) t)
-      unfolding meaningOf sizeRead
+      pub declare-ends : (t ≡ 0 → ⊥) → t ≤ maxTool → {z v : SizeRead} → z ≡ sizeRead (d .column) (decimalOf d) → z ≡ v
+          → declareAnswer t v ≡ onForm (λ _. at + 1) (declareAt (drop at s) t)
+      unfolding meaningOf inRange sizeRead
       declare-ends h k ez ev =
           let d = size-read s at e g .decimal in
           rw (size-ends s at e g n (declare t), is-tool t h k)
-          (ap (declareAnswer t) (sym ev ∙ ez ∙ size-same s at e g) ∙ sym (declare-by t (isSize d) (millionths d)))
+          (ap (declareAnswer t) (sym ev ∙ ez ∙ size-same s at e g) ∙ sym (declare-by t (isSize d) (millionths d) (at + 1)))
+
+-- the same in whatever column it is found, where that is one
+declare-columns : (p q : ℕ → ℕ) → p (code "C") ≡ q (code "C") → (l : List ℕ) (t : ℕ) → onForm p (declareAt l t) ≡ onForm q (declareAt l t)
+unfolding meaningOf
+declare-columns p q e l t = by (unsignedOf l)
+  where
+    by : (r : NumberRead) → onForm p (onNumber r no-form (λ d rest. atEnd rest (declare t d))) ≡ onForm q (onNumber r no-form (λ d rest. atEnd rest (declare t d)))
+    by (got d []) = rw e
+    by (got d (b ∷ rest)) = refl
+    by no-number = refl
 
 -- ---- T and its digits
 
@@ -81,7 +94,16 @@ module _ (rev : Revision) (s : List ℕ) {t : Run} (e : t ≡ heldRun 1 0 (digit
     declared : {v : Bool} → toolDigits f (t .next - 1) ≡ v → toolDigits (fewestDeclared rev) (digitsOf (drop 1 s) .count) ≡ v
     declared n = ap (λ (z : ℕ). toolDigits z (digitsOf (drop 1 s) .count)) (sym ef) ∙ counted-test f n
 
-    pub declare-count : toolDigits f (t .next - 1) ≡ false → saysNo noSuchForm ≡ onForm (toolForm rev (drop 1 s))
+    declared-column : columnAfter 1 (drop 1 s) (code "C") ≡ t .next + 1 + 1
+    declared-column =
+        let near = stands-within s (t .next) (code "C") ec h in
+        let tail = subst (λ (l : List ℕ). Tail l (drop 1 s)) (run-rest s 1 0 e) (digits-tail (drop 1 s)) in
+        let place : 1 + (length (drop 1 s) - length (drop (t .next) s)) ≡ t .next = omega (arith, length-drop 1 s, length-drop (t .next) s, tail-length tail) in
+        tail-column tail 1 (code "C") (omega arith)
+        ∙ ap (λ (k : ℕ). columnAfter k (drop (t .next) s) (code "C")) place
+        ∙ column-here s (t .next) (code "C") (sym ec ∙ h) ∙ omega arith
+
+    pub declare-count : toolDigits f (t .next - 1) ≡ false → saysNo noSuchForm ≡ onForm (columnAfter 1 (drop 1 s)) (toolForm rev (drop 1 s))
     unfolding toolForm
     declare-count n = rw (run-rest s 1 0 e, sym ec ∙ h, declared n)
 
@@ -91,14 +113,15 @@ module _ (rev : Revision) (s : List ℕ) {t : Run} (e : t ≡ heldRun 1 0 (digit
     pub declare-small : toolDigits f (t .next - 1) ≡ true → t .value ≤ maxTool
     declare-small n = value (fewestDeclared rev) (declared n) .1
 
-    pub declare-fits : toolDigits f (t .next - 1) ≡ true → onForm (declareAt (drop (t .next + 1) s) (t .value)) ≡ onForm (toolForm rev (drop 1 s))
+    pub declare-fits : toolDigits f (t .next - 1) ≡ true → onForm (λ _. t .next + 1 + 1) (declareAt (drop (t .next + 1) s) (t .value)) ≡ onForm (columnAfter 1 (drop 1 s)) (toolForm rev (drop 1 s))
     unfolding toolForm
     declare-fits n =
         rw (run-rest s 1 0 e, sym ec ∙ h, declared n, drop-drop 1 (t .next) s)
-        (ap (λ (v : ℕ). onForm (declareAt (drop (t .next + 1) s) v)) (value (fewestDeclared rev) (declared n) .0))
+        (ap (λ (v : ℕ). onForm (λ _. t .next + 1 + 1) (declareAt (drop (t .next + 1) s) v)) (value (fewestDeclared rev) (declared n) .0)
+        ∙ declare-columns (λ _. t .next + 1 + 1) (columnAfter 1 (drop 1 s)) (sym declared-column) (drop (t .next + 1) s) (digitsOf (drop 1 s) .value))
 
   module _ (h : c ≡ false) where
-    pub select-count : toolDigits fewestSelected (t .next - 1) ≡ false → saysNo noSuchForm ≡ onForm (toolForm rev (drop 1 s))
+    pub select-count : toolDigits fewestSelected (t .next - 1) ≡ false → saysNo noSuchForm ≡ onForm (columnAfter 1 (drop 1 s)) (toolForm rev (drop 1 s))
     unfolding toolForm
     select-count n = rw (run-rest s 1 0 e, sym ec ∙ h, counted-test fewestSelected n)
 
@@ -110,16 +133,16 @@ module _ (rev : Revision) (s : List ℕ) {t : Run} (e : t ≡ heldRun 1 0 (digit
       unfolding toolForm
       selected = rw (run-rest s 1 0 e, sym ec ∙ h, fits, value fewestSelected fits .0)
 
-      pub select-goes-on : (t .next ≡ length s → ⊥) → saysNo noSuchForm ≡ onForm (toolForm rev (drop 1 s))
+      pub select-goes-on : (t .next ≡ length s → ⊥) → saysNo noSuchForm ≡ onForm (columnAfter 1 (drop 1 s)) (toolForm rev (drop 1 s))
       select-goes-on g =
           let some = fit-digits fewestSelected (digitsOf (drop 1 s) .count) fits .0 in
           rw (selected, ended-no s (t .next) (select (t .value)) (omega (arith, run-next s 1 0 e, count-at s 1, some)) g)
 
       module _ (g : t .next ≡ length s) where
-        pub select-zero : t .value ≡ 0 → saysNo outOfRange ≡ onForm (toolForm rev (drop 1 s))
+        pub select-zero : t .value ≡ 0 → saysNo (outOfRange toolColumn) ≡ onForm (columnAfter 1 (drop 1 s)) (toolForm rev (drop 1 s))
         unfolding meaningOf inRange
         select-zero z = rw (selected, ended-is s (t .next) (select (t .value)) g, no-tool (t .value) z)
 
-        pub select-is : (t .value ≡ 0 → ⊥) → says (K.Select (t .value)) ≡ onForm (toolForm rev (drop 1 s))
+        pub select-is : (t .value ≡ 0 → ⊥) → says (K.Select (t .value)) ≡ onForm (columnAfter 1 (drop 1 s)) (toolForm rev (drop 1 s))
         unfolding meaningOf inRange
         select-is z = rw (selected, ended-is s (t .next) (select (t .value)) g, is-tool (t .value) z (value fewestSelected fits .1))

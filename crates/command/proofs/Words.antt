@@ -67,10 +67,10 @@ word-form (a ∷ l) (b ∷ w) f = go (eqb a b) (word-form l w f)
     go true e = e
     go false e = refl
 
-pub word-is : (l w : List ℕ) (f : Form) (c : Command) → meaningOf f ≡ says c
-    → word l w c ≡ onForm (cond (startsWith l w) (atEnd (drop (length w) l) f) no-form)
-word-is l w f c e = rw (word-form l w f) (go (same l w))
+pub word-is : (after : ℕ → ℕ) (l w : List ℕ) (f : Form) (c : Command) → meaningOf after f ≡ says c
+    → word l w c ≡ onForm after (cond (startsWith l w) (atEnd (drop (length w) l) f) no-form)
+word-is after l w f c e = rw (word-form l w f) (go (same l w))
   where
-    go : (t : Bool) → cond t (says c) (saysNo noSuchForm) ≡ onForm (cond t (is f) no-form)
+    go : (t : Bool) → cond t (says c) (saysNo noSuchForm) ≡ onForm after (cond t (is f) no-form)
     go true = sym e
     go false = refl

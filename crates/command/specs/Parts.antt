@@ -15,7 +15,7 @@ use Rattle.rules.specs.declared.LineAnswer.{LineAnswer}
 use Rattle.rules.specs.declared.Revision.{Revision}
 use Rattle.rules.specs.Refusals.{noSuchForm}
 use Rattle.rules.specs.Numbers.{Decimal, onNumber, unsignedOf}
-use Rattle.rules.specs.Commands.{Form, declare, g00, hit, g01, g02, g03, Formed, no-form, atEnd, pointForm, says, saysNo, commandOf}
+use Rattle.rules.specs.Commands.{Form, declare, g00, hit, g01, g02, g03, Formed, no-form, atEnd, pointForm, columnAfter, says, saysNo, commandOf}
 use Rattle.number.specs.declared.CoordinateRead.{CoordinateRead}
 use Rattle.number.specs.declared.CoordinateRead.the-variants as N
 use Rattle.number.specs.Capped.{HeldAs}
@@ -35,11 +35,15 @@ use Rattle.command.specs.declared.CodeRead.the-variants as M
 
 -- ---- X, a number, Y, a number
 
--- the bytes from at on have a point's form: its two numbers are held, and the bytes after it begin where the second ends
+-- the bytes from at on have a point's form: its two numbers are held, each with the column behind its letter, and the bytes after it begin
+-- where the second ends; no A stands before
 pub record HasPair (s : List ℕ) (at : ℕ) (p : Pair) : Type 0 where
   pub x-is : Decimal
   pub y-is : Decimal
   pub form : (f : Decimal → Decimal → List ℕ → Formed) → pointForm (drop at s) f ≡ f x-is y-is (drop (p .y .next) s)
+  pub x-column : p .x .column ≡ columnAfter at (drop at s) (code "X")
+  pub y-column : p .y .column ≡ columnAfter at (drop at s) (code "Y")
+  pub past : columnAfter at (drop at s) (code "A") ≡ columnAfter (p .y .next) (drop (p .y .next) s) (code "A")
   pub x-holds : HeldAs (p .x) x-is
   pub y-holds : HeldAs (p .y) y-is
   pub within : p .y .next ≤ length s
@@ -50,8 +54,8 @@ PairAt s at None = (f : Decimal → Decimal → List ℕ → Formed) → pointFo
 
 abbrev pub placed : CoordinateRead → CoordinateRead → Placed
 placed (N.Is x) (N.Is y) = Is (record { x = x; y = y })
-placed (N.Is x) N.Out = Out
-placed N.Out b = Out
+placed (N.Is x) (N.Out e) = Out e
+placed (N.Out e) b = Out e
 
 -- ---- kinds with a point, and with a point and a radius
 

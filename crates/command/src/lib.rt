@@ -2,11 +2,11 @@
 // number is asked for its range.
 ghost use mathlib.Core.Path.{_≡_};
 ghost use mathlib.Core.List.{_++_};
-ghost use Prim.Native.Nat.{_≤_};
+ghost use Prim.Native.Nat.{_+_, _≤_};
 ghost use lib.ListN.{drop};
 ghost use Rattle.lists.specs.Words.{bytes};
 ghost use Rattle.number.specs.Capped.{decimalOf, coordinateRead};
-ghost use Rattle.rules.specs.Commands.{pointForm, arcForm, fewestDeclared, toolDigits, toolForm, onForm, commandOf};
+ghost use Rattle.rules.specs.Commands.{pointForm, arcForm, fewestDeclared, toolDigits, toolForm, columnAfter, onForm, commandOf};
 ghost use Rattle.rules.specs.Numbers.{maxTool};
 ghost use Rattle.rules.specs.Commands as C;
 ghost use Rattle.command.specs.Parts.{PairAt, placed, pointed, pointCommand, turned, turnCommand, same, word, declareAt, ByEach, codeOf, codeCommand};
@@ -27,6 +27,9 @@ const FEWEST_SELECTED: usize = 1;
 // The most digits of any tool number.
 const MOST_DIGITS: usize = 2;
 
+// The column of a tool number: T is the first byte of its line.
+const TOOL_COLUMN: usize = 2;
+
 // X, a number, Y, a number, as they are written.
 struct Pair {
     x: Written,
@@ -38,10 +41,10 @@ enum PairRead {
     None,
 }
 
-// The point that such a pair is, or that it is out of range.
+// The point that such a pair is, or which of its numbers is out of range.
 enum Placed {
     Is(Point),
-    Out,
+    Out(Refusal),
 }
 
 // The commands that have a point alone.
@@ -109,15 +112,15 @@ fn pair_at(s: &[u8], at: usize) -> PairRead
 }
 
 fn place(p: Pair) -> Placed
-    ensures { λ r. ⌜ r ≡ placed (coordinateRead (decimalOf (p .x))) (coordinateRead (decimalOf (p .y))) ⌝ }
+    ensures { λ r. ⌜ r ≡ placed (coordinateRead (p .x .column) (decimalOf (p .x))) (coordinateRead (p .y .column) (decimalOf (p .y))) ⌝ }
 {
-    let CoordinateRead::Is(x) = number::coordinate(p.x) else {
-        return Placed::Out;
-    };
-    let CoordinateRead::Is(y) = number::coordinate(p.y) else {
-        return Placed::Out;
-    };
-    Placed::Is(Point { x: x, y: y })
+    match number::coordinate(p.x) {
+        CoordinateRead::Out(refusal) => Placed::Out(refusal),
+        CoordinateRead::Is(x) => match number::coordinate(p.y) {
+            CoordinateRead::Out(refusal) => Placed::Out(refusal),
+            CoordinateRead::Is(y) => Placed::Is(Point { x: x, y: y }),
+        },
+    }
 }
 
 fn point_command(kind: Pointed, p: Point) -> Command
@@ -141,7 +144,7 @@ fn turn_command(kind: Turned, a: Arc) -> Command
 
 // X#Y# from the place `at` to the line's end.
 fn point_line(s: &[u8], at: usize, kind: Pointed) -> LineAnswer
-    ensures { λ r. ⌜ r ≡ onForm (pointForm (drop at (now (s .entry))) (pointed kind)) ⌝ }
+    ensures { λ r. ⌜ r ≡ onForm (columnAfter at (drop at (now (s .entry)))) (pointForm (drop at (now (s .entry))) (pointed kind)) ⌝ }
 {
     let PairRead::Got(p) = pair_at(s, at) else {
         return says_no(rules::NO_SUCH_FORM);
@@ -150,15 +153,15 @@ fn point_line(s: &[u8], at: usize, kind: Pointed) -> LineAnswer
     if y.next != s.len() {
         return says_no(rules::NO_SUCH_FORM);
     }
-    let Placed::Is(to) = place(p) else {
-        return says_no(rules::OUT_OF_RANGE);
-    };
-    says(point_command(kind, to))
+    match place(p) {
+        Placed::Out(refusal) => says_no(refusal),
+        Placed::Is(to) => says(point_command(kind, to)),
+    }
 }
 
 // X#Y#A# from the place `at` to the line's end.
 fn arc_line(s: &[u8], at: usize, kind: Turned) -> LineAnswer
-    ensures { λ r. ⌜ r ≡ onForm (arcForm (drop at (now (s .entry))) (turned kind)) ⌝ }
+    ensures { λ r. ⌜ r ≡ onForm (columnAfter at (drop at (now (s .entry)))) (arcForm (drop at (now (s .entry))) (turned kind)) ⌝ }
 {
     let PairRead::Got(p) = pair_at(s, at) else {
         return says_no(rules::NO_SUCH_FORM);
@@ -174,25 +177,25 @@ fn arc_line(s: &[u8], at: usize, kind: Turned) -> LineAnswer
     if a.next != s.len() {
         return says_no(rules::NO_SUCH_FORM);
     }
-    let Placed::Is(to) = place(p) else {
-        return says_no(rules::OUT_OF_RANGE);
-    };
-    let SizeRead::Is(radius) = number::size(a) else {
-        return says_no(rules::OUT_OF_RANGE);
-    };
-    says(turn_command(
-        kind,
-        Arc {
-            to: to,
-            radius: radius,
+    match place(p) {
+        Placed::Out(refusal) => says_no(refusal),
+        Placed::Is(to) => match number::size(a) {
+            SizeRead::Out(refusal) => says_no(refusal),
+            SizeRead::Is(radius) => says(turn_command(
+                kind,
+                Arc {
+                    to: to,
+                    radius: radius,
+                },
+            )),
         },
-    ))
+    }
 }
 
 // The diameter that `tool` is declared with, from the place `at` to the line's end.
 fn declare_line(s: &[u8], at: usize, tool: u32) -> LineAnswer
     requires { ⌜ tool ≤ maxTool ⌝ }
-    ensures { λ r. ⌜ r ≡ onForm (declareAt (drop at (now (s .entry))) tool) ⌝ }
+    ensures { λ r. ⌜ r ≡ onForm (λ _. at + 1) (declareAt (drop at (now (s .entry))) tool) ⌝ }
 {
     let Number::Got(d) = number::unsigned(s, at) else {
         return says_no(rules::NO_SUCH_FORM);
@@ -201,12 +204,12 @@ fn declare_line(s: &[u8], at: usize, tool: u32) -> LineAnswer
         return says_no(rules::NO_SUCH_FORM);
     }
     if tool == 0 {
-        return says_no(rules::OUT_OF_RANGE);
+        return says_no(rules::out_of_range(TOOL_COLUMN));
     }
-    let SizeRead::Is(diameter) = number::size(d) else {
-        return says_no(rules::OUT_OF_RANGE);
-    };
-    says(Command::Declare(tool, diameter))
+    match number::size(d) {
+        SizeRead::Out(refusal) => says_no(refusal),
+        SizeRead::Is(diameter) => says(Command::Declare(tool, diameter)),
+    }
 }
 
 // The fewest digits of a tool number in a declaration: all that a revision decides.
@@ -231,7 +234,7 @@ fn tool_digits(fewest: usize, digits: usize) -> bool
 
 // T, a tool number; or T, a tool number, C, a number. How many digits a tool number has is form.
 fn tool_line(s: &[u8], revision: Revision) -> LineAnswer
-    ensures { λ r. ⌜ r ≡ onForm (toolForm revision (drop 1 (now (s .entry)))) ⌝ }
+    ensures { λ r. ⌜ r ≡ onForm (columnAfter 1 (drop 1 (now (s .entry)))) (toolForm revision (drop 1 (now (s .entry)))) ⌝ }
 {
     let t = number::run_at(s, 1);
     let end = t.next;
@@ -251,7 +254,7 @@ fn tool_line(s: &[u8], revision: Revision) -> LineAnswer
         return says_no(rules::NO_SUCH_FORM);
     }
     if value == 0 {
-        return says_no(rules::OUT_OF_RANGE);
+        return says_no(rules::out_of_range(TOOL_COLUMN));
     }
     says(Command::Select(value))
 }
@@ -354,7 +357,7 @@ fn g_line(s: &[u8]) -> LineAnswer
 
 // After its `;` a comment holds no second one.
 fn comment_line(s: &[u8]) -> LineAnswer
-    ensures { λ r. ⌜ r ≡ onForm (C.commentForm (drop 1 (now (s .entry)))) ⌝ }
+    ensures { λ r. ⌜ ByEach (bytes ";" ++ drop 1 (now (s .entry))) r ⌝ }
 {
     let mut i = 1;
     while i < s.len() {
@@ -366,7 +369,7 @@ fn comment_line(s: &[u8]) -> LineAnswer
     says(Command::Comment)
 }
 
-/// What bytes without a line's end say by a revision: a command, or the refusal 5 or 7.
+/// What bytes without a line's end say by a revision: a command, or the refusal 5 or, in its column, 7.
 pub fn read(s: &[u8], revision: Revision) -> LineAnswer
     ensures { λ r. ⌜ r ≡ commandOf revision (now (s .entry)) ⌝ }
 {

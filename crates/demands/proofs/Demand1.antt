@@ -9,7 +9,7 @@ demand-1 = record {
   read = read-rest;
   edit = edit-rest;
   write = write-rest;
-  hole = λ t n k e i h. subst (HoleTold (TableRefusal holeRefusals n)) h (hole-told (TableRefusal holeRefusals n) t n (refl, at-zero n) (rows-named holeRefusals n refl) k (refl, at-zero n));
+  hole = λ t n k e i h. subst (HoleTold (TableRefusal holeRefusals n)) h (hole-told (TableRefusal holeRefusals n) t n (refl, at-zero n, refl) (rows-named holeRefusals n refl) k (refl, at-zero n, refl));
   diameter = λ t n tool e i h. subst (DiameterTold (TableRefusal diameterRefusals n)) h
-      (diameter-of-told (TableRefusal diameterRefusals n) t n (refl, at-zero n) (rows-named diameterRefusals n refl) tool (refl, at-zero n) (refl, at-zero n));
+      (diameter-of-told (TableRefusal diameterRefusals n) t n (refl, at-zero n, refl) (rows-named diameterRefusals n refl) tool (refl, at-zero n, refl) (refl, at-zero n, refl));
 }

@@ -66,7 +66,7 @@ module _ (rev : Revision) (bs : List ℕ) (t : List ℤ) where
   no-fault i f =
       false≢true (sym (faulty-told (λ e _. eqb (e .number) (noRoom .number) ≡ false) refl
       (λ j n. record {
-        line = record { long = refl; byte = refl; form = refl; range = refl };
+        line = record { long = refl; byte = λ _ _ _. refl; form = refl; range = λ _ _ _. refl };
         step = record { phase = refl; motion = refl; again = refl; undeclared = refl; unselected = refl; arc = refl };
         many = refl;
         unended = refl;

@@ -19,7 +19,7 @@ use Rattle.rules.specs.declared.HoleAnswer.the-variants as H
 use Rattle.rules.specs.declared.DiameterAnswer.{DiameterAnswer}
 use Rattle.rules.specs.declared.DiameterAnswer.the-variants.{Is, Refused}
 use Rattle.rules.specs.declared.Revision.{Revision}
-use Rattle.rules.specs.Refusals.{noSuchLine, outOfRange}
+use Rattle.rules.specs.Refusals.{noSuchLine, noSuchTool}
 use Rattle.rules.specs.Numbers.{maxTool, isTool}
 use Rattle.rules.specs.Ranges.{NumberOk, CommandOk}
 use Rattle.rules.specs.State.{start, taken, hasEnded}
@@ -31,7 +31,7 @@ use Rattle.rules.specs.Asking.{holeIn, holeAnswer, diameterAnswer}
 use Rattle.laws.proofs.Sizes.{line-says}
 use Rattle.laws.proofs.InRange.{RowsOk, row-ok}
 use Rattle.laws.proofs.Diameters.{diameterBy, HasDiameter, diameter-rows, passed-over, found-row}
-use Rattle.obeys.proofs.Lines.{tool-read}
+use Rattle.obeys.proofs.Ranges.{tool-read}
 use Rattle.obeys.proofs.Lines as Lines
 use Rattle.obeys.proofs.Declares.{one-declaration, declared-diameter}
 use Rattle.obeys.proofs.Selected.{hole-diameter}
@@ -47,7 +47,7 @@ use Rattle.demands.proofs.GoodStays.{edit-good}
 
 -- the answer, by the rows' commands
 abbrev diameterOf : ℕ → List Command → DiameterAnswer
-diameterOf tool cs = cond (isTool tool) (diameterBy tool cs) (Refused outOfRange 0)
+diameterOf tool cs = cond (isTool tool) (diameterBy tool cs) (Refused noSuchTool 0)
 
 good-diameter : (t : List ℤ) (n : ℕ) (rs : Rows) → Good t n rs → (tool : ℕ) → diameterAnswer t n tool ≡ diameterOf tool (commandsOf rs)
 unfolding diameterAnswer
@@ -84,7 +84,7 @@ module _ (t : List ℤ) (n : ℕ) (rs : Rows) (g : Good t n rs) where
   its-row : (tool d : ℕ) → diameterAnswer t n tool ≡ Is d → (j : ℕ) × DeclaredAt rs tool d j
   its-row tool d e = by (isTool tool) (sym (good-diameter t n rs g tool) ∙ e)
     where
-      by : (b : Bool) → cond b (diameterBy tool (commandsOf rs)) (Refused outOfRange 0) ≡ Is d → (j : ℕ) × DeclaredAt rs tool d j
+      by : (b : Bool) → cond b (diameterBy tool (commandsOf rs)) (Refused noSuchTool 0) ≡ Is d → (j : ℕ) × DeclaredAt rs tool d j
       by true f = by-row tool d f
       by false f = absurd (let z : _≡_ {A = ℕ} 0 1 = cc in omega arith)
 
@@ -134,7 +134,7 @@ after-edit {rev} t n rs g k l m tool h old new =
     let d = edit-done rev t n k l m h in
     let e = edit-good rev t n rs g k l (d .span) (d .verdict) in
     good-diameter (editLeaves rev t n k l) n (putAt rs (k - 1) (d .span .rows)) (e .good) tool
-    ∙ ap (λ (a : DiameterAnswer). cond (isTool tool) a (Refused outOfRange 0))
+    ∙ ap (λ (a : DiameterAnswer). cond (isTool tool) a (Refused noSuchTool 0))
     (diameter-left tool k l (d .span) new rs (e .from) (e .upto) (e .made) old)
     ∙ sym (good-diameter t n rs g tool)
 

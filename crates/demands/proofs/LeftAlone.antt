@@ -1,7 +1,7 @@
 -- What reading, editing and writing leave of what is lent. An answer and what it leaves come from one verdict: on a refusal
 -- nothing is put anywhere, on success a list is put in one place, inside what is lent, and that leaves the rest.
-use mathlib.Core.Path.{_≡_, refl, ap, _∙_, subst, subst₂}
-use mathlib.Core.Bool.{Bool, true, false, cond}
+use mathlib.Core.Path.{_≡_, refl, sym, ap, _∙_, subst, subst₂}
+use mathlib.Core.Bool.{Bool, true, false, cond, false≢true}
 use mathlib.Core.List.{List}
 use Prim.Native.Nat.{ℕ, _+_, _-_, _*_, _≤_}
 use native.Mathlib.Omega.{arith}
@@ -17,8 +17,8 @@ use Rattle.rules.specs.declared.State.{State}
 use Rattle.rules.specs.declared.Refusal.{Refusal}
 use Rattle.rules.specs.declared.Answer.the-variants.{Done, Refused}
 use Rattle.rules.specs.declared.Revision.{Revision}
-use Rattle.rules.specs.Refusals.{noRoom, badTable}
-use Rattle.rules.specs.Numbers.{maxLines}
+use Rattle.rules.specs.Refusals.{noColumn, inColumn, noRoom, badTable}
+use Rattle.rules.specs.Numbers.{maxLines, maxLine}
 use Rattle.rules.specs.Rows.{rowWidth, tableNumbers}
 use Rattle.rules.specs.Reading.{Rows, fileOf, hasRoom, inRoom, withRows, readAnswer, readLeaves}
 use Rattle.rules.specs.Editing.{editOf, meetingOf, leavesOf, editAnswer, editLeaves}
@@ -33,30 +33,53 @@ use Rattle.answers.proofs.GoodTables.{good-whole}
 use Rattle.answers.proofs.WrittenTable.{rows-good, write-done, write-writes}
 use Rattle.answers.proofs.EditSpan.{SpanOf, edit-tests, edit-done}
 use Rattle.answers.proofs.Small.{span-of}
-use Rattle.demands.specs.Demand1.{among, OnLine, readRefusals, editRefusals, writeRefusals, ReadLeavesRest, EditLeavesRest, WriteLeavesRest}
+use Rattle.demands.specs.Demand1.{among, OnLine, columnRefusals, ColumnOnly, readRefusals, editRefusals, writeRefusals, ReadLeavesRest, EditLeavesRest, WriteLeavesRest}
 
 -- ---- reading
 
+-- a refusal that names no column, and one that does
+no-column : (e : Refusal) → among columnRefusals (e .number) ≡ false → e .column ≡ noColumn → ColumnOnly e
+no-column e h c = record { named = λ k. absurd (false≢true (sym h ∙ k)); nought = λ _. c }
+
+in-column : (c n : ℕ) → among columnRefusals n ≡ true → 1 ≤ c → c ≤ maxLine → ColumnOnly (inColumn c n)
+in-column c n h p q = record { named = λ _. (p, q); nought = λ k. absurd (false≢true (sym k ∙ h)) }
+
 -- a refusal that reading gives
 abbrev InRead : Refusal → ℕ → Type 0
-InRead e i = (among readRefusals (e .number) ≡ true) × (i ≤ maxLines + 1)
+InRead e i = (among readRefusals (e .number) ≡ true) × (i ≤ maxLines + 1) × ColumnOnly e
 
 file-refusals : (rev : Revision) (bs : List ℕ) (e : Refusal) (i : ℕ) → fileOf rev bs ≡ refused e i → InRead e i
 file-refusals rev bs e i h =
-    faulty-told InRead (refl, omega arith)
+    faulty-told InRead (plain _ refl refl refl 0 (omega arith))
     (λ j n. record {
-      line = record { long = (refl, n); byte = (refl, n); form = (refl, n); range = (refl, n) };
-      step = record { phase = (refl, n); motion = (refl, n); again = (refl, n); undeclared = (refl, n); unselected = (refl, n); arc = (refl, n) };
-      many = (refl, n);
-      unended = (refl, n);
-      short = (refl, n);
+      line = record {
+        long = plain _ refl refl refl j n;
+        byte = λ c p q. (refl, n, in-column c 4 refl p q);
+        form = plain _ refl refl refl j n;
+        range = λ c p q. (refl, n, in-column c 7 refl p q);
+      };
+      step = record {
+        phase = plain _ refl refl refl j n;
+        motion = plain _ refl refl refl j n;
+        again = plain _ refl refl refl j n;
+        undeclared = plain _ refl refl refl j n;
+        unselected = plain _ refl refl refl j n;
+        arc = plain _ refl refl refl j n;
+      };
+      many = plain _ refl refl refl j n;
+      unended = plain _ refl refl refl j n;
+      short = plain _ refl refl refl j n;
     }) (refused-says bs e i .0 h)
+  where
+    plain : (e : Refusal) → among readRefusals (e .number) ≡ true → among columnRefusals (e .number) ≡ false → e .column ≡ noColumn
+        → (j : ℕ) → j ≤ maxLines + 1 → InRead e j
+    plain e a b c j n = (a, n, no-column e b c)
 
 module _ (rev : Revision) (bs : List ℕ) (t : List ℤ) where
   no-room : (rs : Rows) (e : Refusal) (i : ℕ) (b : Bool) → cond b (Done (length rs)) (Refused noRoom 0) ≡ Refused e i
       → (cond b (putAt t 0 (tableNumbers rs)) t ≡ t) × InRead e i
   no-room rs e i true h = absurd (let z : _≡_ {A = ℕ} 0 1 = cc in omega arith)
-  no-room rs e i false h = let d : noRoom ≡ e = cc in let z : 0 ≡ i = cc in (refl, subst₂ InRead d z (refl, omega arith))
+  no-room rs e i false h = let d : noRoom ≡ e = cc in let z : 0 ≡ i = cc in (refl, subst₂ InRead d z (refl, omega arith, no-column noRoom refl refl))
 
   not-read : (e : Refusal) (i : ℕ) (v : Verdict Rows Refusal) → fileOf rev bs ≡ v → onVerdict v Refused (inRoom t) ≡ Refused e i
       → (onVerdict v (λ e i. t) (withRows t) ≡ t) × InRead e i
@@ -84,6 +107,7 @@ module _ (rev : Revision) (bs : List ℕ) (t : List ℤ) where
   unfolding readAnswer readLeaves
   read-rest = record {
     refused = λ e i h. let w = not-read e i (fileOf rev bs) refl h in (w .0, w .1 .0, w .1 .1);
+    column-only = λ e i h. not-read e i (fileOf rev bs) refl h .1 .2;
     inside = λ n h. let d = read-done rev bs t n h in (omega (arith, file-few rev bs (d .rows) (d .read), d .counted), omega (arith, d .room, d .counted));
     beyond = read-beyond;
     as-many = read-length (fileOf rev bs);
@@ -92,21 +116,37 @@ module _ (rev : Revision) (bs : List ℕ) (t : List ℤ) where
 -- ---- editing
 
 abbrev InEdit : ℕ → Refusal → ℕ → Type 0
-InEdit n e i = (among editRefusals (e .number) ≡ true) × OnLine (n + 1) (maxLines + 1) i
+InEdit n e i = (among editRefusals (e .number) ≡ true) × OnLine (n + 1) (maxLines + 1) i × ColumnOnly e
 
 module _ (rev : Revision) (t : List ℤ) (n k : ℕ) (l : List ℕ) where
   edit-refusals : Told (InEdit n) (editOf rev t n k l)
   edit-refusals =
       let z : OnLine (n + 1) (maxLines + 1) 0 = (omega arith, omega arith) in
-      edit-told (InEdit n) t n (refl, z) rev k l (refl, z) (refl, z)
+      edit-told (InEdit n) t n (plain _ refl refl refl 0 z) rev k l (plain _ refl refl refl 0 z) (plain _ refl refl refl 0 z)
       (λ h. record {
         steps = λ j m. let o : OnLine (n + 1) (maxLines + 1) j = (omega arith, omega arith) in
-            record { phase = (refl, o); motion = (refl, o); again = (refl, o); undeclared = (refl, o); unselected = (refl, o); arc = (refl, o) };
-        damaged = λ j m. (refl, (omega arith, omega arith));
-        short = (refl, (omega arith, omega arith));
+            record {
+              phase = plain _ refl refl refl j o;
+              motion = plain _ refl refl refl j o;
+              again = plain _ refl refl refl j o;
+              undeclared = plain _ refl refl refl j o;
+              unselected = plain _ refl refl refl j o;
+              arc = plain _ refl refl refl j o;
+            };
+        damaged = λ j m. plain _ refl refl refl j (omega arith, omega arith);
+        short = plain _ refl refl refl (n + 1) (omega arith, omega arith);
       })
       (λ h m. let o : OnLine (n + 1) (maxLines + 1) k = (omega arith, omega arith) in
-      record { long = (refl, o); byte = (refl, o); form = (refl, o); range = (refl, o) })
+      record {
+        long = plain _ refl refl refl k o;
+        byte = λ c p q. (refl, o, in-column c 4 refl p q);
+        form = plain _ refl refl refl k o;
+        range = λ c p q. (refl, o, in-column c 7 refl p q);
+      })
+    where
+      plain : (e : Refusal) → among editRefusals (e .number) ≡ true → among columnRefusals (e .number) ≡ false → e .column ≡ noColumn
+          → (j : ℕ) → OnLine (n + 1) (maxLines + 1) j → InEdit n e j
+      plain e a b c j o = (a, o, no-column e b c)
 
   not-edited : (e : Refusal) (i : ℕ) (v : Verdict (Span Command State) Refusal) → Told (InEdit n) v → meetingOf v ≡ Refused e i → (leavesOf t k v ≡ t) × InEdit n e i
   not-edited e i (accepted s) w h = absurd (let z : _≡_ {A = ℕ} 0 1 = cc in omega arith)
@@ -157,6 +197,7 @@ module _ (rev : Revision) (t : List ℤ) (n k : ℕ) (l : List ℕ) where
   unfolding editAnswer editLeaves
   edit-rest = record {
     refused = λ e i h. let w = not-edited e i (editOf rev t n k l) edit-refusals h in (w .0, w .1 .0, w .1 .1);
+    column-only = λ e i h. not-edited e i (editOf rev t n k l) edit-refusals h .1 .2;
     inside = λ m h.
         let d = edit-done rev t n k l m h in
         let c = inside (d .span) (d .verdict) in
@@ -171,19 +212,19 @@ module _ (rev : Revision) (t : List ℤ) (n k : ℕ) (l : List ℕ) where
 
 -- a refusal of a table of n rows, one of some
 abbrev pub TableRefusal : List ℕ → ℕ → Refusal → ℕ → Type 0
-TableRefusal some n e i = (among some (e .number) ≡ true) × OnLine n maxLines i
+TableRefusal some n e i = (among some (e .number) ≡ true) × OnLine n maxLines i × (e .column ≡ noColumn)
 
 pub at-zero : (n : ℕ) → OnLine n maxLines 0
 at-zero n = (omega arith, omega arith)
 
 pub rows-named : (some : List ℕ) (n : ℕ) → among some (badTable .number) ≡ true → n ≤ maxLines → (j : ℕ) → j ≤ n → TableRefusal some n badTable j
-rows-named some n h few j m = (h, (m, omega arith))
+rows-named some n h few j m = (h, (m, omega arith), refl)
 
 module _ (t : List ℤ) (n : ℕ) (b : List ℕ) where
   no-block : (x : List ℕ) (e : Refusal) (i : ℕ) (c : Bool) → cond c (Done (length x)) (Refused noRoom 0) ≡ Refused e i
       → (cond c (putAt b 0 x) b ≡ b) × TableRefusal writeRefusals n e i
   no-block x e i true h = absurd (let z : _≡_ {A = ℕ} 0 1 = cc in omega arith)
-  no-block x e i false h = let d : noRoom ≡ e = cc in let z : 0 ≡ i = cc in (refl, subst₂ (TableRefusal writeRefusals n) d z (refl, at-zero n))
+  no-block x e i false h = let d : noRoom ≡ e = cc in let z : 0 ≡ i = cc in (refl, subst₂ (TableRefusal writeRefusals n) d z (refl, at-zero n, refl))
 
   not-written : (e : Refusal) (i : ℕ) (v : Verdict Rows Refusal) → Told (TableRefusal writeRefusals n) v → onVerdict v Refused (λ rs. inBlock b (textOfRows rs)) ≡ Refused e i
       → (onVerdict v (λ e i. b) (λ rs. withText b (textOfRows rs)) ≡ b) × TableRefusal writeRefusals n e i
@@ -214,8 +255,8 @@ module _ (t : List ℤ) (n : ℕ) (b : List ℕ) where
   unfolding writeAnswer writeLeaves
   write-rest = record {
     refused = λ e i h.
-        let w = not-written e i (rowsOf t n) (rows-told (TableRefusal writeRefusals n) t n (refl, at-zero n) (rows-named writeRefusals n refl)) h in
-        (w .0, w .1 .0, w .1 .1);
+        let w = not-written e i (rowsOf t n) (rows-told (TableRefusal writeRefusals n) t n (refl, at-zero n, refl) (rows-named writeRefusals n refl)) h in
+        (w .0, w .1 .0, w .1 .1, w .1 .2);
     inside = write-inside;
     beyond = write-beyond;
     as-many = write-length (rowsOf t n);

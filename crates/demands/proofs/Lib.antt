@@ -17,6 +17,7 @@ pub mod HoleRefused
 pub mod EditRefused
 pub mod OneSpelling
 pub mod BenchFile
+pub mod WhichColumn
 pub mod OneDigit
 pub mod OlderAccepts
 pub mod ReadsBackByEither

@@ -1,6 +1,6 @@
 -- A declaration with one digit is 5 by 2021 and never 5 by 2019; every other line is one form, and so has one answer, by both.
 use mathlib.Core.Path.{_≡_, refl, sym, _∙_, subst}
-use mathlib.Core.Bool.{Bool, true, false, _&&_}
+use mathlib.Core.Bool.{Bool, true, false}
 use mathlib.Core.List.{List, _++_}
 use Prim.Native.Nat.{ℕ, _≤_}
 use native.Mathlib.Omega.{arith}
@@ -10,14 +10,13 @@ use lib.Dec.{leb}
 use lib.ListN.{length}
 use Rattle.lists.specs.Words.{bytes, startsWith}
 use Rattle.lists.proofs.Choice.{cond-all}
-use Rattle.rules.specs.declared.Command.{Command}
 use Rattle.rules.specs.declared.Command.the-variants.{Declare}
 use Rattle.rules.specs.declared.LineAnswer.{LineAnswer}
 use Rattle.rules.specs.declared.Revision.the-variants.{Rev2019, Rev2021}
 use Rattle.rules.specs.Refusals.{noSuchForm}
 use Rattle.rules.specs.Numbers.{maxLine, isDigit, Decimal, millionths, isSize, isTool}
 use Rattle.rules.specs.Lines.{isPrintable}
-use Rattle.rules.specs.Commands.{Form, Formed, is, no-form, toolForm, formOf, saysNo, inRange, meaningOf, commandOf, lineOf}
+use Rattle.rules.specs.Commands.{Form, Formed, is, no-form, toolForm, formOf, says, saysNo, inRange, meaningOf, commandOf, lineOf}
 use Rattle.rules.specs.Spelling.{SpellsDeclared, tc, Spells, declare-is, Printable}
 use Rattle.obeys.proofs.Numbers.{digits-read}
 use Rattle.obeys.proofs.Forms.{form-read, form-iff}
@@ -38,15 +37,16 @@ always-5 l w s p = rw (le-leb (length l) maxLine s, printable-read p, no-form-20
 abbrev Not5 : LineAnswer → Type 0
 Not5 a = a .refusal .number ≡ 5 → ⊥
 
-in-range-not-5 : (b : Bool) (c : Command) → Not5 (inRange b c)
+in-range-not-5 : (b : Bool) (c : ℕ) (a : LineAnswer) → Not5 a → Not5 (inRange b c a)
 unfolding inRange
-in-range-not-5 true c e = omega arith
-in-range-not-5 false c e = omega arith
+in-range-not-5 true c a h = h
+in-range-not-5 false c a h = λ e. omega arith
 
 command-not-5 : (l : List ℕ) → OneDigit l → Not5 (commandOf Rev2019 l)
 unfolding commandOf meaningOf
 command-not-5 l (one-digit {t = t} {d = d} w) =
-    rw (form-read {rev = Rev2019} (declare-is w (omega arith) (omega arith))) (in-range-not-5 (isTool t && isSize d) (Declare t (millionths d)))
+    rw (form-read {rev = Rev2019} (declare-is w (omega arith) (omega arith)))
+    (in-range-not-5 (isTool t) _ _ (in-range-not-5 (isSize d) _ (says (Declare t (millionths d))) (λ e. omega arith)))
 
 pub never-5 : (l : List ℕ) → OneDigit l → Not5 (lineOf Rev2019 l)
 unfolding lineOf

@@ -1,7 +1,7 @@
 -- Demand 1: every input has one answer, since reading, editing, writing and the two questions are functions of what is
--- handed in. A refusal has one of the numbers listed and a line up to the one that is missing after the last, and leaves
--- everything lent as it was; a success changes what it says and nothing beyond. The two questions are lent nothing that
--- they could change.
+-- handed in. A refusal has one of the numbers listed and a line up to the one that is missing after the last, names a column
+-- or none (column-only), and leaves everything lent as it was; a success changes what it says and nothing beyond. The two
+-- questions are lent nothing that they could change.
 use mathlib.Core.Path.{_≡_}
 use mathlib.Core.Bool.{Bool, true, false, _||_}
 use mathlib.Core.List.{List, [], _∷_}
@@ -14,7 +14,8 @@ use Rattle.rules.specs.declared.Answer.the-variants.{Done, Refused}
 use Rattle.rules.specs.declared.HoleAnswer.the-variants as H
 use Rattle.rules.specs.declared.DiameterAnswer.the-variants as D
 use Rattle.rules.specs.declared.Revision.{Revision}
-use Rattle.rules.specs.Numbers.{maxLines}
+use Rattle.rules.specs.Refusals.{noColumn}
+use Rattle.rules.specs.Numbers.{maxLines, maxLine}
 use Rattle.rules.specs.Rows.{rowWidth}
 use Rattle.rules.specs.Reading.{readAnswer, readLeaves}
 use Rattle.rules.specs.Editing.{editAnswer, editLeaves}
@@ -46,10 +47,19 @@ diameterRefusals = 18 ∷ 7 ∷ 10 ∷ []
 abbrev pub writeRefusals : List ℕ
 writeRefusals = 18 ∷ 15 ∷ []
 
+-- document 02, #106: a column from 1 to the longest line's last exactly where the number is one of these, and 0 elsewhere
+abbrev pub columnRefusals : List ℕ
+columnRefusals = 4 ∷ 7 ∷ []
+
+pub record ColumnOnly (e : Refusal) : Type 0 where
+  pub named : among columnRefusals (e .number) ≡ true → (1 ≤ e .column) × (e .column ≤ maxLine)
+  pub nought : among columnRefusals (e .number) ≡ false → e .column ≡ noColumn
+
 -- a file's bytes bs read by a revision into lent numbers t
 pub record ReadLeavesRest (rev : Revision) (bs : List ℕ) (t : List ℤ) : Type 0 where
   pub refused : (e : Refusal) (i : ℕ) → readAnswer rev bs t ≡ Refused e i
       → (readLeaves rev bs t ≡ t) × (among readRefusals (e .number) ≡ true) × (i ≤ maxLines + 1)
+  pub column-only : (e : Refusal) (i : ℕ) → readAnswer rev bs t ≡ Refused e i → ColumnOnly e
   pub inside : (n : ℕ) → readAnswer rev bs t ≡ Done n → (n ≤ maxLines) × (rowWidth * n ≤ length t)
   pub beyond : (n : ℕ) → readAnswer rev bs t ≡ Done n → drop (rowWidth * n) (readLeaves rev bs t) ≡ drop (rowWidth * n) t
   pub as-many : length (readLeaves rev bs t) ≡ length t
@@ -58,6 +68,7 @@ pub record ReadLeavesRest (rev : Revision) (bs : List ℕ) (t : List ℤ) : Type
 pub record EditLeavesRest (rev : Revision) (t : List ℤ) (n k : ℕ) (l : List ℕ) : Type 0 where
   pub refused : (e : Refusal) (i : ℕ) → editAnswer rev t n k l ≡ Refused e i
       → (editLeaves rev t n k l ≡ t) × (among editRefusals (e .number) ≡ true) × OnLine (n + 1) (maxLines + 1) i
+  pub column-only : (e : Refusal) (i : ℕ) → editAnswer rev t n k l ≡ Refused e i → ColumnOnly e
   pub inside : (m : ℕ) → editAnswer rev t n k l ≡ Done m → (1 ≤ k) × (k ≤ m) × (m ≤ n) × (n ≤ maxLines) × (rowWidth * n ≤ length t)
   pub before : (m : ℕ) → editAnswer rev t n k l ≡ Done m
       → take (rowWidth * (k - 1)) (editLeaves rev t n k l) ≡ take (rowWidth * (k - 1)) t
@@ -67,7 +78,7 @@ pub record EditLeavesRest (rev : Revision) (t : List ℤ) (n k : ℕ) (l : List 
 -- a table of n rows in numbers t written into lent bytes b
 pub record WriteLeavesRest (t : List ℤ) (n : ℕ) (b : List ℕ) : Type 0 where
   pub refused : (e : Refusal) (i : ℕ) → writeAnswer t n b ≡ Refused e i
-      → (writeLeaves t n b ≡ b) × (among writeRefusals (e .number) ≡ true) × OnLine n maxLines i
+      → (writeLeaves t n b ≡ b) × (among writeRefusals (e .number) ≡ true) × OnLine n maxLines i × (e .column ≡ noColumn)
   pub inside : (m : ℕ) → writeAnswer t n b ≡ Done m → (m ≤ length b) × (m ≤ longestLine * n) × (n ≤ maxLines)
   pub beyond : (m : ℕ) → writeAnswer t n b ≡ Done m → drop m (writeLeaves t n b) ≡ drop m b
   pub as-many : length (writeLeaves t n b) ≡ length b
@@ -77,6 +88,6 @@ pub record Demand1 : Type 0 where
   pub edit : (rev : Revision) (t : List ℤ) (n k : ℕ) (l : List ℕ) → EditLeavesRest rev t n k l
   pub write : (t : List ℤ) (n : ℕ) (b : List ℕ) → WriteLeavesRest t n b
   pub hole : (t : List ℤ) (n k : ℕ) (e : Refusal) (i : ℕ) → holeAnswer t n k ≡ H.Refused e i
-      → (among holeRefusals (e .number) ≡ true) × OnLine n maxLines i
+      → (among holeRefusals (e .number) ≡ true) × OnLine n maxLines i × (e .column ≡ noColumn)
   pub diameter : (t : List ℤ) (n tool : ℕ) (e : Refusal) (i : ℕ) → diameterAnswer t n tool ≡ D.Refused e i
-      → (among diameterRefusals (e .number) ≡ true) × OnLine n maxLines i
+      → (among diameterRefusals (e .number) ≡ true) × OnLine n maxLines i × (e .column ≡ noColumn)

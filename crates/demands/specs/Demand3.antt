@@ -20,7 +20,7 @@ use Rattle.rules.specs.Editing.{noLineEnd, editAnswer, editLeaves}
 use Rattle.rules.specs.Asking.{holeAnswer}
 use Rattle.demands.specs.EditedFile.{LineOf, edited}
 
--- an edit's answer, and a fresh reading's: the same refusal at the same line, or n lines read
+-- an edit's answer, and a fresh reading's: the same refusal, its column included, at the same line, or n lines read
 abbrev pub SameVerdict : ℕ → Answer → Answer → Type 0
 SameVerdict n (Refused e i) fresh = fresh ≡ Refused e i
 SameVerdict n (Done m) fresh = fresh ≡ Done n

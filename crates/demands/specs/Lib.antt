@@ -12,5 +12,6 @@ pub mod EditRefused
 pub mod OneSpelling
 pub mod DiametersStand
 pub mod BenchFile
+pub mod WhichColumn
 pub mod OlderAccepts
 pub mod ReadsBackByEither

@@ -25,7 +25,7 @@ pub data OneDigit : List ℕ → Type 0 where
 pub record OneDigitLines : Type 0 where
   pub taken : lineOf Rev2019 (bytes "T1C0.6") ≡ says (Declare 1 600000)
   pub refused : lineOf Rev2021 (bytes "T1C0.6") ≡ saysNo noSuchForm
-  pub zero : lineOf Rev2019 (bytes "T0C1") ≡ saysNo outOfRange
+  pub zero : lineOf Rev2019 (bytes "T0C1") ≡ saysNo (outOfRange 2)
   pub three-digits : lineOf Rev2019 (bytes "T001C1") ≡ saysNo noSuchForm
 
 pub record OlderAccepts : Type 0 where

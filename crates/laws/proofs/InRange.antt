@@ -20,7 +20,7 @@ use Rattle.rules.specs.declared.LineAnswer.{LineAnswer}
 use Rattle.rules.specs.declared.Revision.{Revision}
 use Rattle.rules.specs.Numbers.{maxLine, maxNumber, maxTool, maxPlaces, maxLines, Decimal, withSign, millionths, isCoordinate, coordinateOf, isSize, isTool}
 use Rattle.rules.specs.Lines.{Line, textOf, isPrintable}
-use Rattle.rules.specs.Commands.{Form, comment, m48, metric, inch, declare, percent, g05, g00, select, hit, m15, m16, g01, g02, g03, m30, Formed, is, no-form, formOf, pointOf, inRange, meaningOf, onForm, commandOf, lineOf}
+use Rattle.rules.specs.Commands.{Form, comment, m48, metric, inch, declare, percent, g05, g00, select, hit, m15, m16, g01, g02, g03, m30, Formed, is, no-form, formOf, columnAfter, says, pointOf, inRange, pointInRange, arcInRange, meaningOf, onForm, commandOf, lineOf}
 use Rattle.rules.specs.State.{taken, hasEnded}
 use Rattle.rules.specs.Reading.{sayOut, answerIn, commandIn, Rows, noRow}
 use Rattle.rules.specs.Ranges.{PointOk, NumberOk, ArcOk, StateOk, CommandOk}
@@ -50,47 +50,48 @@ tool-ok : (t : ℕ) → isTool t ≡ true → NumberOk 1 maxTool t
 unfolding isTool
 tool-ok t e = let h = both (leb 1 t) (leb t maxTool) e in record { low = leb-true 1 t (h .0); high = leb-true t maxTool (h .1) }
 
-point-ok : (x y : Decimal) → isCoordinate x && isCoordinate y ≡ true → PointOk (pointOf x y)
-point-ok x y e = let h = both (isCoordinate x) (isCoordinate y) e in record { x-range = coordinate-ok x (h .0); y-range = coordinate-ok y (h .1) }
-
-arc-ok : (x y r : Decimal) → isCoordinate x && isCoordinate y && isSize r ≡ true → ArcOk (record { to = pointOf x y; radius = millionths r })
-arc-ok x y r e =
-    let h = both (isCoordinate x && isCoordinate y) (isSize r) e in
-    record { to-range = point-ok x y (h .0); radius-range = size-ok r (h .1) }
-
-in-range : (t : Bool) (c : Command) → (t ≡ true → CommandOk c) → CommandOk (inRange t c .command)
+in-range : (t : Bool) (k : ℕ) (a : LineAnswer) → (t ≡ true → CommandOk (a .command)) → CommandOk (inRange t k a .command)
 unfolding inRange
-in-range true c h = h refl
-in-range false c h = tt
+in-range true k a h = h refl
+in-range false k a h = tt
 
-meaning-ok : (f : Form) → CommandOk (meaningOf f .command)
-unfolding meaningOf
-meaning-ok comment = tt
-meaning-ok m48 = tt
-meaning-ok metric = tt
-meaning-ok inch = tt
-meaning-ok (declare t d) = in-range (isTool t && isSize d) (K.Declare t (millionths d)) (λ e. let h = both (isTool t) (isSize d) e in (tool-ok t (h .0), size-ok d (h .1)))
-meaning-ok percent = tt
-meaning-ok g05 = tt
-meaning-ok (g00 x y) = in-range (isCoordinate x && isCoordinate y) (K.G00 (pointOf x y)) (point-ok x y)
-meaning-ok (select t) = in-range (isTool t) (K.Select t) (tool-ok t)
-meaning-ok (hit x y) = in-range (isCoordinate x && isCoordinate y) (K.Hit (pointOf x y)) (point-ok x y)
-meaning-ok m15 = tt
-meaning-ok m16 = tt
-meaning-ok (g01 x y) = in-range (isCoordinate x && isCoordinate y) (K.G01 (pointOf x y)) (point-ok x y)
-meaning-ok (g02 x y r) = in-range (isCoordinate x && isCoordinate y && isSize r) (K.G02 (record { to = pointOf x y; radius = millionths r })) (arc-ok x y r)
-meaning-ok (g03 x y r) = in-range (isCoordinate x && isCoordinate y && isSize r) (K.G03 (record { to = pointOf x y; radius = millionths r })) (arc-ok x y r)
-meaning-ok m30 = tt
+module _ (after : ℕ → ℕ) where
+  point-ok : (x y : Decimal) (a : LineAnswer) → (PointOk (pointOf x y) → CommandOk (a .command)) → CommandOk (pointInRange after x y a .command)
+  point-ok x y a h =
+      in-range (isCoordinate x) _ _ (λ p. in-range (isCoordinate y) _ a (λ q. h (record { x-range = coordinate-ok x p; y-range = coordinate-ok y q })))
 
-form-ok : (f : Formed) → CommandOk (onForm f .command)
-form-ok (is f) = meaning-ok f
-form-ok no-form = tt
+  arc-ok : (x y r : Decimal) (a : LineAnswer) → (ArcOk (record { to = pointOf x y; radius = millionths r }) → CommandOk (a .command))
+      → CommandOk (arcInRange after x y r a .command)
+  arc-ok x y r a h = point-ok x y _ (λ p. in-range (isSize r) _ a (λ q. h (record { to-range = p; radius-range = size-ok r q })))
+
+  meaning-ok : (f : Form) → CommandOk (meaningOf after f .command)
+  unfolding meaningOf
+  meaning-ok comment = tt
+  meaning-ok m48 = tt
+  meaning-ok metric = tt
+  meaning-ok inch = tt
+  meaning-ok (declare t d) = in-range (isTool t) _ _ (λ p. in-range (isSize d) _ (says (K.Declare t (millionths d))) (λ q. (tool-ok t p, size-ok d q)))
+  meaning-ok percent = tt
+  meaning-ok g05 = tt
+  meaning-ok (g00 x y) = point-ok x y (says (K.G00 (pointOf x y))) (λ p. p)
+  meaning-ok (select t) = in-range (isTool t) _ (says (K.Select t)) (tool-ok t)
+  meaning-ok (hit x y) = point-ok x y (says (K.Hit (pointOf x y))) (λ p. p)
+  meaning-ok m15 = tt
+  meaning-ok m16 = tt
+  meaning-ok (g01 x y) = point-ok x y (says (K.G01 (pointOf x y))) (λ p. p)
+  meaning-ok (g02 x y r) = arc-ok x y r (says (K.G02 (record { to = pointOf x y; radius = millionths r }))) (λ p. p)
+  meaning-ok (g03 x y r) = arc-ok x y r (says (K.G03 (record { to = pointOf x y; radius = millionths r }))) (λ p. p)
+  meaning-ok m30 = tt
+
+  form-ok : (f : Formed) → CommandOk (onForm after f .command)
+  form-ok (is f) = meaning-ok f
+  form-ok no-form = tt
 
 pub line-ok : (rev : Revision) (l : List ℕ) → CommandOk (lineOf rev l .command)
 unfolding lineOf commandOf
 line-ok rev l =
     cond-all (λ (a : LineAnswer). CommandOk (a .command)) (leb (length l) maxLine)
-    (λ _. cond-all (λ (a : LineAnswer). CommandOk (a .command)) (isPrintable l) (λ _. form-ok (formOf rev l)) (λ _. tt))
+    (λ _. cond-all (λ (a : LineAnswer). CommandOk (a .command)) (isPrintable l) (λ _. form-ok (columnAfter 0 l) (formOf rev l)) (λ _. tt))
     (λ _. tt)
 
 -- ---- rows

@@ -2,12 +2,11 @@
 ghost use mathlib.Core.Path.{_≡_};
 ghost use Prim.Native.Nat.{_+_};
 ghost use lib.ListN.{drop};
-ghost use Rattle.rules.specs.Lines.{textOf, isPrintable};
+ghost use Rattle.rules.specs.Lines.{textOf, allowedBytes};
 ghost use Rattle.rules.specs.Commands.{saysNo, lineOf};
 ghost use Rattle.rules.specs.Reading.{answerIn};
 ghost use Rattle.line.specs.Line.{lineOfBytes, findLF};
 use rules::Command;
-use rules::FORBIDDEN_BYTE;
 use rules::LINE_NOT_ENDED;
 use rules::LINE_TOO_LONG;
 use rules::LineAnswer;
@@ -16,6 +15,7 @@ use rules::MAX_LINES;
 use rules::Refusal;
 use rules::Revision;
 use rules::TOO_MANY_LINES;
+use rules::forbidden_byte;
 
 /// Where the line that begins at `from` has its LF, or the file's end; past the end it is `from` itself.
 pub fn find_lf(file: &[u8], from: usize) -> usize
@@ -53,33 +53,35 @@ fn says_no(refusal: Refusal) -> LineAnswer
     }
 }
 
-// Are all bytes in 32 to 126?
-fn printable(s: &[u8]) -> bool
-    ensures { λ r. ⌜ r ≡ isPrintable (now (s .entry)) ⌝ }
+// How many bytes it begins with that are in 32 to 126: the first forbidden byte stands behind them.
+fn allowed_bytes(s: &[u8]) -> usize
+    ensures { λ r. ⌜ r ≡ allowedBytes (now (s .entry)) ⌝ }
 {
-    let mut i = 0;
-    while i < s.len() {
-        let b = s[i];
+    let mut allowed = 0;
+    while allowed < s.len() {
+        let b = s[allowed];
         if b < 32 {
-            return false;
+            return allowed;
         }
         if 126 < b {
-            return false;
+            return allowed;
         }
-        i += 1;
+        allowed += 1;
     }
-    true
+    allowed
 }
 
-/// What a line's text says by a revision: a command, or the refusal 6, 4, 5 or 7, the first that there is ground for.
+/// What a line's text says by a revision: a command, or the refusal 6, 4, 5 or 7, the first that there is ground for; 4 and 7 in their
+/// column.
 pub fn read(text: &[u8], revision: Revision) -> LineAnswer
     ensures { λ r. ⌜ r ≡ lineOf revision (now (text .entry)) ⌝ }
 {
     if MAX_LINE < text.len() {
         return says_no(LINE_TOO_LONG);
     }
-    if !printable(text) {
-        return says_no(FORBIDDEN_BYTE);
+    let allowed = allowed_bytes(text);
+    if allowed < text.len() {
+        return says_no(forbidden_byte(allowed + 1));
     }
     command::read(text, revision)
 }

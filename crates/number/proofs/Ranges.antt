@@ -12,6 +12,8 @@ use lib.Signed.{mag}
 use mir.Syntax.{w32}
 use mir.Val.{SFits, toZ, ofZ}
 use mir.ValLaws.{toZ-pos, toZ-ofZ}
+use Rattle.rules.specs.declared.Refusal.{Refusal}
+use Rattle.rules.specs.Refusals.{outOfRange}
 use Rattle.rules.specs.Numbers.{maxPlaces, maxNumber, Decimal, millionths, isCoordinate, coordinateOf, isSize}
 use Rattle.number.specs.declared.Written.{Written}
 use Rattle.number.specs.declared.CoordinateRead.the-variants as C
@@ -36,43 +38,43 @@ module _ (n : ℕ) (h : n ≤ maxNumber) where
 
 -- ---- the tests
 
-module _ (d : Decimal) where
-  pub coordinate-places : maxPlaces < d .places → C.Out ≡ coordinateRead d
+module _ (c : ℕ) (d : Decimal) where
+  pub coordinate-places : {e : Refusal} → e ≡ outOfRange c → maxPlaces < d .places → C.Out e ≡ coordinateRead c d
   unfolding coordinateRead isCoordinate
-  coordinate-places h = rw (lt-leb (d .places) maxPlaces h)
+  coordinate-places o h = rw (o, lt-leb (d .places) maxPlaces h)
 
-  pub size-places : maxPlaces < d .places → S.Out ≡ sizeRead d
+  pub size-places : {e : Refusal} → e ≡ outOfRange c → maxPlaces < d .places → S.Out e ≡ sizeRead c d
   unfolding sizeRead isSize
-  size-places h = rw (lt-leb (d .places) maxPlaces h)
+  size-places o h = rw (o, lt-leb (d .places) maxPlaces h)
 
   module _ (h : d .places ≤ maxPlaces) (n : ℕ) (e : n ≡ d .digits * 10 ^ (maxPlaces - d .places)) where
-    pub coordinate-large : maxNumber < n → C.Out ≡ coordinateRead d
+    pub coordinate-large : {x : Refusal} → x ≡ outOfRange c → maxNumber < n → C.Out x ≡ coordinateRead c d
     unfolding coordinateRead isCoordinate millionths
-    coordinate-large k = rw (le-leb (d .places) maxPlaces h, ← e, lt-leb n maxNumber k)
+    coordinate-large o k = rw (o, le-leb (d .places) maxPlaces h, ← e, lt-leb n maxNumber k)
 
-    pub size-zero : n ≡ 0 → S.Out ≡ sizeRead d
+    pub size-zero : {x : Refusal} → x ≡ outOfRange c → n ≡ 0 → S.Out x ≡ sizeRead c d
     unfolding sizeRead isSize millionths
-    size-zero k = rw (le-leb (d .places) maxPlaces h, ← e, lt-leb 1 n (omega arith))
+    size-zero o k = rw (o, le-leb (d .places) maxPlaces h, ← e, lt-leb 1 n (omega arith))
 
     module _ (k : n ≤ maxNumber) where
-      coordinate-is : coordinateRead d ≡ C.Is (coordinateOf d)
+      coordinate-is : coordinateRead c d ≡ C.Is (coordinateOf d)
       unfolding coordinateRead isCoordinate millionths
       coordinate-is = rw (le-leb (d .places) maxPlaces h, ← e, le-leb n maxNumber k)
 
-      pub coordinate-minus : d .negative ≡ true → C.Is (toZ w32 (ofZ w32 (pos 0 -ℤ toZ w32 n))) ≡ coordinateRead d
+      pub coordinate-minus : d .negative ≡ true → C.Is (toZ w32 (ofZ w32 (pos 0 -ℤ toZ w32 n))) ≡ coordinateRead c d
       unfolding coordinateOf millionths
       coordinate-minus m = rw (coordinate-is, m, ← e, minus-i32 n k)
 
-      pub coordinate-plus : d .negative ≡ false → C.Is (toZ w32 n) ≡ coordinateRead d
+      pub coordinate-plus : d .negative ≡ false → C.Is (toZ w32 n) ≡ coordinateRead c d
       unfolding coordinateOf millionths
       coordinate-plus m = rw (coordinate-is, m, ← e, plus-i32 n k)
 
     module _ (f : n ≡ 0 → ⊥) where
-      pub size-large : maxNumber < n → S.Out ≡ sizeRead d
+      pub size-large : {x : Refusal} → x ≡ outOfRange c → maxNumber < n → S.Out x ≡ sizeRead c d
       unfolding sizeRead isSize millionths
-      size-large k = rw (le-leb (d .places) maxPlaces h, ← e, le-leb 1 n (omega arith), lt-leb n maxNumber k)
+      size-large o k = rw (o, le-leb (d .places) maxPlaces h, ← e, le-leb 1 n (omega arith), lt-leb n maxNumber k)
 
-      pub size-is : n ≤ maxNumber → S.Is n ≡ sizeRead d
+      pub size-is : n ≤ maxNumber → S.Is n ≡ sizeRead c d
       unfolding sizeRead isSize millionths
       size-is k = rw (le-leb (d .places) maxPlaces h, ← e, le-leb 1 n (omega arith), le-leb n maxNumber k)
 
@@ -95,10 +97,10 @@ exact f out same w d r = go (decLt (d .digits) cap)
         ap f (λ i. record { negative = r .negative-is i; digits = e i; places = r .places-is i })
     go (no h) = same (decimalOf w) (omega arith) ∙ sym (same d (omega arith))
 
-pub coordinate-exact : (w : Written) (d : Decimal) → HeldAs w d → coordinateRead (decimalOf w) ≡ coordinateRead d
+pub coordinate-exact : (c : ℕ) (w : Written) (d : Decimal) → HeldAs w d → coordinateRead c (decimalOf w) ≡ coordinateRead c d
 unfolding coordinateRead isCoordinate
-coordinate-exact = exact coordinateRead C.Out (λ d h. rw (over d h, and-false))
+coordinate-exact c = exact (coordinateRead c) (C.Out (outOfRange c)) (λ d h. rw (over d h, and-false))
 
-pub size-exact : (w : Written) (d : Decimal) → HeldAs w d → sizeRead (decimalOf w) ≡ sizeRead d
+pub size-exact : (c : ℕ) (w : Written) (d : Decimal) → HeldAs w d → sizeRead c (decimalOf w) ≡ sizeRead c d
 unfolding sizeRead isSize
-size-exact = exact sizeRead S.Out (λ d h. rw (over d h, and-false, and-false))
+size-exact c = exact (sizeRead c) (S.Out (outOfRange c)) (λ d h. rw (over d h, and-false, and-false))

@@ -5,6 +5,7 @@ use mathlib.Core.Bool.{cond}
 use mathlib.Core.List.{List}
 use Prim.Native.Nat.{ℕ, _+_, _-_, _*_, _^_, _≤_, min}
 use lib.ListN.{length, drop}
+use Rattle.rules.specs.Refusals.{outOfRange}
 use Rattle.rules.specs.Numbers.{DigitRun, Decimal, NumberRead, got, no-number, millionths, isCoordinate, coordinateOf, isSize}
 use Rattle.number.specs.declared.Run.{Run}
 use Rattle.number.specs.declared.Written.{Written}
@@ -26,11 +27,11 @@ pushed n d = min (n * 10 + d) cap
 abbrev pub heldRun : ℕ → ℕ → DigitRun → Run
 heldRun at c w = record { value = min (c * 10 ^ w .count + w .value) cap; next = at + w .count }
 
--- a number in n bytes
-abbrev pub numberAt : ℕ → NumberRead → Number
-numberAt n (got d rest) =
-    Got (record { negative = d .negative; digits = min (d .digits) cap; places = d .places; next = n - length rest })
-numberAt n no-number = None
+-- a number in n bytes, with its first byte in column c
+abbrev pub numberAt : ℕ → ℕ → NumberRead → Number
+numberAt c n (got d rest) =
+    Got (record { column = c; negative = d .negative; digits = min (d .digits) cap; places = d .places; next = n - length rest })
+numberAt c n no-number = None
 
 -- a decimal as it is held, and a reading: where the held number ends the bytes after it begin
 pub record HeldAs (w : Written) (d : Decimal) : Type 0 where
@@ -38,8 +39,9 @@ pub record HeldAs (w : Written) (d : Decimal) : Type 0 where
   pub digits-is : w .digits ≡ min (d .digits) cap
   pub places-is : w .places ≡ d .places
 
-pub record ReadsTo (s : List ℕ) (r : NumberRead) (w : Written) : Type 0 where
+pub record ReadsTo (s : List ℕ) (c : ℕ) (r : NumberRead) (w : Written) : Type 0 where
   pub decimal : Decimal
+  pub column-is : w .column ≡ c
   pub reading : r ≡ got decimal (drop (w .next) s)
   pub holds : HeldAs w decimal
   pub within : w .next ≤ length s
@@ -48,9 +50,9 @@ pub record ReadsTo (s : List ℕ) (r : NumberRead) (w : Written) : Type 0 where
 abbrev pub decimalOf : Written → Decimal
 decimalOf w = record { negative = w .negative; digits = w .digits; places = w .places }
 
--- what a number is as a coordinate, and as a diameter or radius
-unfoldable pub coordinateRead : Decimal → CoordinateRead
-coordinateRead d = cond (isCoordinate d) (C.Is (coordinateOf d)) C.Out
+-- what a number in column c is as a coordinate, and as a diameter or radius
+unfoldable pub coordinateRead : ℕ → Decimal → CoordinateRead
+coordinateRead c d = cond (isCoordinate d) (C.Is (coordinateOf d)) (C.Out (outOfRange c))
 
-unfoldable pub sizeRead : Decimal → SizeRead
-sizeRead d = cond (isSize d) (S.Is (millionths d)) S.Out
+unfoldable pub sizeRead : ℕ → Decimal → SizeRead
+sizeRead c d = cond (isSize d) (S.Is (millionths d)) (S.Out (outOfRange c))

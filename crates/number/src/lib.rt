@@ -2,11 +2,13 @@
 // number out of range still says where it ends, since the form of a whole line is decided before any range.
 ghost use mathlib.Core.Path.{_≡_};
 ghost use mathlib.Core.List.{[], _∷_};
-ghost use Prim.Native.Nat.{_<_, _≤_, _*_, _^_, _-_};
+ghost use Prim.Native.Nat.{_<_, _≤_, _+_, _*_, _^_, _-_};
 ghost use lib.ListN.{length, drop};
 ghost use Rattle.lists.specs.Words.{startsWith};
 ghost use Rattle.rules.specs.Numbers.{maxPlaces, digitsOf, magnitudeOf, unsignedOf, signedOf};
 ghost use Rattle.number.specs.Capped.{cap, pushed, heldRun, numberAt, decimalOf, coordinateRead, sizeRead};
+use rules::Refusal;
+use rules::out_of_range;
 
 // Most digits after the point.
 const MAX_PLACES: usize = 6;
@@ -20,9 +22,10 @@ pub struct Run {
     pub next: usize,
 }
 
-/// A number as it is written: its sign, its digits as one number (a run's value), how many of them stand after the
-/// point, and the place after it.
+/// A number as it is written: the column of its first byte, its sign, its digits as one number (a run's value), how many of them stand
+/// after the point, and the place after it.
 pub struct Written {
+    pub column: usize,
     pub negative: bool,
     pub digits: u32,
     pub places: usize,
@@ -35,16 +38,16 @@ pub enum Number {
     None,
 }
 
-/// A coordinate in millionths, or that it is out of range.
+/// A coordinate in millionths, or that it is out of range, and where.
 pub enum CoordinateRead {
     Is(i32),
-    Out,
+    Out(Refusal),
 }
 
-/// A diameter or a radius in millionths, or that it is out of range.
+/// A diameter or a radius in millionths, or that it is out of range, and where.
 pub enum SizeRead {
     Is(u32),
-    Out,
+    Out(Refusal),
 }
 
 /// Does the byte b stand at the place `at`?
@@ -106,9 +109,10 @@ pub fn run_at(s: &[u8], at: usize) -> Run
     digits(s, at, 0)
 }
 
-// Digits with at most one point, at least one digit in all.
-fn magnitude(s: &[u8], at: usize, negative: bool) -> Number
-    ensures { λ r. ⌜ r ≡ numberAt (length (now (s .entry))) (magnitudeOf negative (drop at (now (s .entry)))) ⌝ }
+// Digits with at most one point, at least one digit in all, from the place `at` on. The number begins at `from`, with its sign.
+fn magnitude(s: &[u8], from: usize, at: usize, negative: bool) -> Number
+    requires { ⌜ from ≤ at ⌝ }
+    ensures { λ r. ⌜ r ≡ numberAt (from + 1) (length (now (s .entry))) (magnitudeOf negative (drop at (now (s .entry)))) ⌝ }
 {
     let whole = run_at(s, at);
     let point = whole.next;
@@ -120,6 +124,7 @@ fn magnitude(s: &[u8], at: usize, negative: bool) -> Number
             return Number::None;
         }
         return Number::Got(Written {
+            column: from + 1,
             negative: negative,
             digits: both.value,
             places: next - first,
@@ -130,6 +135,7 @@ fn magnitude(s: &[u8], at: usize, negative: bool) -> Number
         return Number::None;
     }
     Number::Got(Written {
+        column: from + 1,
         negative: negative,
         digits: whole.value,
         places: 0,
@@ -139,20 +145,20 @@ fn magnitude(s: &[u8], at: usize, negative: bool) -> Number
 
 /// A number without a sign: a diameter or a radius.
 pub fn unsigned(s: &[u8], at: usize) -> Number
-    ensures { λ r. ⌜ r ≡ numberAt (length (now (s .entry))) (unsignedOf (drop at (now (s .entry)))) ⌝ }
+    ensures { λ r. ⌜ r ≡ numberAt (at + 1) (length (now (s .entry))) (unsignedOf (drop at (now (s .entry)))) ⌝ }
 {
-    magnitude(s, at, false)
+    magnitude(s, at, at, false)
 }
 
 /// A number that may have a sign: a coordinate.
 pub fn signed(s: &[u8], at: usize) -> Number
-    ensures { λ r. ⌜ r ≡ numberAt (length (now (s .entry))) (signedOf (drop at (now (s .entry)))) ⌝ }
+    ensures { λ r. ⌜ r ≡ numberAt (at + 1) (length (now (s .entry))) (signedOf (drop at (now (s .entry)))) ⌝ }
 {
     if stands(s, at, b'-') {
-        return magnitude(s, at + 1, true);
+        return magnitude(s, at, at + 1, true);
     }
     if stands(s, at, b'+') {
-        return magnitude(s, at + 1, false);
+        return magnitude(s, at, at + 1, false);
     }
     unsigned(s, at)
 }
@@ -176,15 +182,15 @@ fn millionths(digits: u32, places: usize) -> u64
 
 /// The coordinate that a number is. The sign is the number's, not its whole part's: -0.5 is below 0, and -0 is 0.
 pub fn coordinate(w: Written) -> CoordinateRead
-    ensures { λ r. ⌜ r ≡ coordinateRead (decimalOf w) ⌝ }
+    ensures { λ r. ⌜ r ≡ coordinateRead (w .column) (decimalOf w) ⌝ }
 {
     let places = w.places;
     if MAX_PLACES < places {
-        return CoordinateRead::Out;
+        return CoordinateRead::Out(out_of_range(w.column));
     }
     let n = millionths(w.digits, places);
     if MAX_NUMBER < n {
-        return CoordinateRead::Out;
+        return CoordinateRead::Out(out_of_range(w.column));
     }
     if w.negative {
         return CoordinateRead::Is(-(n as i32));
@@ -194,18 +200,18 @@ pub fn coordinate(w: Written) -> CoordinateRead
 
 /// The diameter or radius that a number without a sign is.
 pub fn size(w: Written) -> SizeRead
-    ensures { λ r. ⌜ r ≡ sizeRead (decimalOf w) ⌝ }
+    ensures { λ r. ⌜ r ≡ sizeRead (w .column) (decimalOf w) ⌝ }
 {
     let places = w.places;
     if MAX_PLACES < places {
-        return SizeRead::Out;
+        return SizeRead::Out(out_of_range(w.column));
     }
     let n = millionths(w.digits, places);
     if n == 0 {
-        return SizeRead::Out;
+        return SizeRead::Out(out_of_range(w.column));
     }
     if MAX_NUMBER < n {
-        return SizeRead::Out;
+        return SizeRead::Out(out_of_range(w.column));
     }
     SizeRead::Is(n as u32)
 }

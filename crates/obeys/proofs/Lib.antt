@@ -1,5 +1,6 @@
 pub mod Numbers
 pub mod Forms
+pub mod Ranges
 pub mod Lines
 pub mod Steps
 pub mod Split

@@ -1,9 +1,11 @@
 -- Where and why a file is refused: at its lowest faulty line, and with that line's own fault. As in Obeys, no reader is in it.
 use mathlib.Core.Path.{_≡_}
 use mathlib.Core.Bool.{true, false}
-use mathlib.Core.List.{List, [], _++_}
+use mathlib.Core.List.{List, [], _∷_, _++_}
 use Prim.Native.Nat.{ℕ, _+_, _<_, _≤_}
+use lib.IntN.{ℤ}
 use lib.ListN.{length}
+use Rattle.lists.specs.Words.{bytes}
 use Rattle.runs.specs.Machine.{commandsOf, lastOf, Follows}
 use Rattle.points.specs.declared.Point.{Point}
 use Rattle.points.specs.declared.Arc.{Arc}
@@ -13,14 +15,14 @@ use Rattle.rules.specs.declared.State.{State}
 use Rattle.rules.specs.declared.Refusal.{Refusal}
 use Rattle.rules.specs.declared.Revision.{Revision}
 use Rattle.rules.specs.Refusals.{fileTooLong, tooManyLines, lineNotEnded, lineTooLong, forbiddenByte, noSuchForm, outOfRange, wrongPhase, wrongMotion, declaredAlready, notDeclared, noToolSelected, impossibleArc, endsTooSoon}
-use Rattle.rules.specs.Numbers.{maxFile, maxLines, maxLine}
+use Rattle.rules.specs.Numbers.{maxFile, maxLines, maxLine, Decimal}
 use Rattle.rules.specs.Lines.{NoLF}
-use Rattle.rules.specs.Commands.{Form}
+use Rattle.rules.specs.Commands.{Form, declare, g00, select, hit, g01, g02, g03}
 use Rattle.tools.specs.Set.{has}
 use Rattle.rules.specs.State.{beforeM48, bareHeader, header, body, over, drill, toolUp, toolDown, noTool, start}
 use Rattle.rules.specs.Reading.{Rows}
 use Rattle.rules.specs.Obeys.{Free, Moving, Possible, Takes}
-use Rattle.rules.specs.Spelling.{Spells, Means, Printable, SpellsLine, FirstLine, SpellsFile}
+use Rattle.rules.specs.Spelling.{Digits, Unsigned, Signed, SpellsPoint, SpellsDeclared, Spells, Coordinate, Size, Tool, Printable, SpellsLine, FirstLine, SpellsFile}
 
 -- ---- a command that may not come
 
@@ -73,15 +75,51 @@ pub data Untaken (s : State) : Command → Refusal → Type 0 where
   g02-impossible : {a : Arc} → Moving toolDown s → (Possible (s .at) a → ⊥) → Untaken s (G02 a) impossibleArc
   g03-impossible : {a : Arc} → Moving toolDown s → (Possible (s .at) a → ⊥) → Untaken s (G03 a) impossibleArc
 
+-- ---- a number out of range: document 02, #106
+
+abbrev pub NoCoordinate : Decimal → Type 0
+NoCoordinate d = (v : ℤ) → Coordinate d v → ⊥
+
+abbrev pub NoSize : Decimal → Type 0
+NoSize d = (n : ℕ) → Size d n → ⊥
+
+-- Its column is one more than the bytes before it. It is the leftmost: every number before it is in range.
+
+-- in a point's bytes, before which k others stand
+pub data PointOut (k : ℕ) : List ℕ → Decimal → Decimal → ℕ → Type 0 where
+  x-out : {a b : List ℕ} {x y : Decimal} → Signed a x → Signed b y → NoCoordinate x
+      → PointOut k (bytes "X" ++ (a ++ (bytes "Y" ++ b))) x y (k + length (bytes "X") + 1)
+  y-out : {a b : List ℕ} {x y : Decimal} {v : ℤ} → Signed a x → Signed b y → Coordinate x v → NoCoordinate y
+      → PointOut k (bytes "X" ++ (a ++ (bytes "Y" ++ b))) x y (k + length (bytes "X" ++ (a ++ bytes "Y")) + 1)
+
+pub data ArcOut (k : ℕ) : List ℕ → Decimal → Decimal → Decimal → ℕ → Type 0 where
+  point-out : {a b : List ℕ} {x y r : Decimal} {c : ℕ} → PointOut k a x y c → Unsigned b r → ArcOut k (a ++ (bytes "A" ++ b)) x y r c
+  radius-out : {a b : List ℕ} {x y r : Decimal} {v w : ℤ} → SpellsPoint a x y → Unsigned b r → Coordinate x v → Coordinate y w → NoSize r
+      → ArcOut k (a ++ (bytes "A" ++ b)) x y r (k + length (a ++ bytes "A") + 1)
+
+-- in bytes that spell a form
+pub data OutAt : List ℕ → Form → ℕ → Type 0 where
+  declared-tool-out : {b : List ℕ} {k t : ℕ} {d : Decimal} → SpellsDeclared b k t d → (Tool t → ⊥)
+      → OutAt (bytes "T" ++ b) (declare t d) (length (bytes "T") + 1)
+  diameter-out : {a b : List ℕ} {k t : ℕ} {d : Decimal} → Digits a k t → Unsigned b d → Tool t → NoSize d
+      → OutAt (bytes "T" ++ (a ++ (bytes "C" ++ b))) (declare t d) (length (bytes "T" ++ (a ++ bytes "C")) + 1)
+  selected-tool-out : {b : List ℕ} {k t : ℕ} → Digits b k t → (Tool t → ⊥) → OutAt (bytes "T" ++ b) (select t) (length (bytes "T") + 1)
+  g00-out : {b : List ℕ} {x y : Decimal} {c : ℕ} → PointOut (length (bytes "G00")) b x y c → OutAt (bytes "G00" ++ b) (g00 x y) c
+  hit-out : {b : List ℕ} {x y : Decimal} {c : ℕ} → PointOut 0 b x y c → OutAt b (hit x y) c
+  g01-out : {b : List ℕ} {x y : Decimal} {c : ℕ} → PointOut (length (bytes "G01")) b x y c → OutAt (bytes "G01" ++ b) (g01 x y) c
+  g02-out : {b : List ℕ} {x y r : Decimal} {c : ℕ} → ArcOut (length (bytes "G02")) b x y r c → OutAt (bytes "G02" ++ b) (g02 x y r) c
+  g03-out : {b : List ℕ} {x y r : Decimal} {c : ℕ} → ArcOut (length (bytes "G03")) b x y r c → OutAt (bytes "G03" ++ b) (g03 x y r) c
+
 -- ---- a line that is no command
 
--- why a line's bytes, without their end, spell no command: 6, 4, 5 or 7, in this order
+-- why a line's bytes, without their end, spell no command: 6; or 4 in the column of a byte that it may not hold, where it may hold those
+-- before; or 5; or 7 in the column of the leftmost number out of range
 pub data LineRefused (rev : Revision) (l : List ℕ) : Refusal → Type 0 where
   too-long : maxLine < length l → LineRefused rev l lineTooLong
-  forbidden : length l ≤ maxLine → (Printable l → ⊥) → LineRefused rev l forbiddenByte
+  forbidden : (rest : List ℕ) {a : List ℕ} {b : ℕ} → length l ≤ maxLine → l ≡ a ++ (b ∷ rest) → Printable a → (Printable (b ∷ []) → ⊥)
+      → LineRefused rev l (forbiddenByte (length a + 1))
   no-form : length l ≤ maxLine → Printable l → ((f : Form) → Spells rev l f → ⊥) → LineRefused rev l noSuchForm
-  no-command : {f : Form} → length l ≤ maxLine → Printable l → Spells rev l f → ((c : Command) → Means f c → ⊥)
-      → LineRefused rev l outOfRange
+  out-of-range : {f : Form} {c : ℕ} → length l ≤ maxLine → Printable l → Spells rev l f → OutAt l f c → LineRefused rev l (outOfRange c)
 
 -- ---- a file that is refused
 

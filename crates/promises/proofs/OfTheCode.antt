@@ -85,6 +85,7 @@ module _ (file : List ℕ) (rev : Revision) (table : List ℤ) (answer : Answer)
       let s = read-says c in
       record {
         refused = λ e i h. s .1 ∙ demand-1 .read rev file table .refused e i (sym (s .0) ∙ h) .0;
+        column-only = λ e i h. demand-1 .read rev file table .column-only e i (sym (s .0) ∙ h);
         obeys = λ n h. demand-2 .reads rev file table .obeys n (sym (s .0) ∙ h);
         accepted = accepted;
         refused-exactly = λ e i. exactly (s .0) (demand-2 .reads rev file table .refused e i);
@@ -131,6 +132,7 @@ pub of-the-code : OfTheCode
 of-the-code = record {
   read = reads-file;
   refused-edit = λ table n line text rev e i left c. let s = edit-says c in s .1 ∙ demand-1 .edit rev table n line text .refused e i (sym (s .0)) .0;
+  edit-column-only = λ table n line text rev e i left c. demand-1 .edit rev table n line text .column-only e i (sym (edit-says c .0));
   refused-write = λ table n block e i left c. let s = write-says c in s .1 ∙ demand-1 .write table n block .refused e i (sym (s .0)) .0;
   edit-exactly = λ table n line text rev answer left c e i. exactly (edit-says c .0) (edit-refused-exactly .refused rev table n line text e i);
   hole-exactly = λ table n line answer c e i. exactly (hole-says c) (hole-refused-exactly .refused table n line e i);

@@ -14,6 +14,10 @@ use Rattle.tools.proofs.Tools.insert.Kinds as tools-insert-kinds
 use Rattle.tools.proofs.Tools.insert.Reads as tools-insert-reads
 use Rattle.tools.proofs.Tools.same.Kinds as tools-same-kinds
 use Rattle.tools.proofs.Tools.same.Reads as tools-same-reads
+use Rattle.rules.proofs.forbidden_byte.Kinds as forbidden-byte-kinds
+use Rattle.rules.proofs.forbidden_byte.Reads as forbidden-byte-reads
+use Rattle.rules.proofs.out_of_range.Kinds as out-of-range-kinds
+use Rattle.rules.proofs.out_of_range.Reads as out-of-range-reads
 use Rattle.rules.proofs.State.new.Kinds as state-new-kinds
 use Rattle.rules.proofs.State.new.Reads as state-new-reads
 use Rattle.rules.proofs.State.step.Kinds as state-step-kinds
@@ -131,6 +135,12 @@ distance κs a x y e f p q = same (p .0) (q .0)
 
 pub arc-is-possible : OneAnswer 0 arc-is-possible-kinds.ps arc-is-possible-kinds.r arc-is-possible-reads.Post
 arc-is-possible κs a x y e f p q = same p q
+
+pub forbidden-byte : OneAnswer 0 forbidden-byte-kinds.ps forbidden-byte-kinds.r forbidden-byte-reads.Post
+forbidden-byte κs a x y e f p q = same p q
+
+pub out-of-range : OneAnswer 0 out-of-range-kinds.ps out-of-range-kinds.r out-of-range-reads.Post
+out-of-range κs a x y e f p q = same p q
 
 pub tools-has : OneAnswer 0 tools-has-kinds.ps tools-has-kinds.r tools-has-reads.Post
 tools-has κs a x y e f p q = same p q

@@ -22,6 +22,7 @@ use Rattle.rules.specs.Holes.{holeOf}
 use Rattle.rules.specs.Obeys.{ReadingOf, Obeys}
 use Rattle.round.specs.Comments.{withoutComments}
 use Rattle.demands.specs.EditedFile.{LineOf, edited}
+use Rattle.demands.specs.Demand1.{ColumnOnly}
 use Rattle.demands.specs.Demand2.{ReadRefused}
 use Rattle.demands.specs.Demand3.{SameVerdict, SpanIs}
 use Rattle.demands.specs.WriteRefused.{WriteRefused}
@@ -33,6 +34,7 @@ use Rattle.promises.specs.Calls.{ReadCall, EditCall, HoleCall, WriteCall
 pub record ReadsFile (file : List ℕ) (rev : Revision) (table : List ℤ) (answer : Answer) (left : List ℤ) : Type 0 where
   -- demand 1
   pub refused : (e : Refusal) (i : ℕ) → answer ≡ Refused e i → left ≡ table
+  pub column-only : (e : Refusal) (i : ℕ) → answer ≡ Refused e i → ColumnOnly e
   -- demand 2: accepted only where it obeys, and there where the numbers lent hold its rows
   pub obeys : (n : ℕ) → answer ≡ Done n → Obeys rev file
   pub accepted : (rs : Rows) → ReadingOf rev file rs → rowWidth * length rs ≤ length table
@@ -49,6 +51,8 @@ pub record OfTheCode : Type 0 where
   -- demand 1: a refused call leaves what was lent as it was; each refusal is given exactly when
   pub refused-edit : (table : List ℤ) (n line : ℕ) (text : List ℕ) (rev : Revision) (e : Refusal) (i : ℕ) (left : List ℤ)
       → EditCall table n line text rev (Refused e i) left → left ≡ table
+  pub edit-column-only : (table : List ℤ) (n line : ℕ) (text : List ℕ) (rev : Revision) (e : Refusal) (i : ℕ) (left : List ℤ)
+      → EditCall table n line text rev (Refused e i) left → ColumnOnly e
   pub refused-write : (table : List ℤ) (n : ℕ) (block : List ℕ) (e : Refusal) (i : ℕ) (left : List ℕ)
       → WriteCall table n block (Refused e i) left → left ≡ block
   pub edit-exactly : (table : List ℤ) (n line : ℕ) (text : List ℕ) (rev : Revision) (answer : Answer) (left : List ℤ)

@@ -13,8 +13,8 @@ use rules::HoleAnswer;
 use rules::Looked;
 use rules::MAX_TOOL;
 use rules::NO_SUCH_LINE;
+use rules::NO_SUCH_TOOL;
 use rules::NOT_DECLARED;
-use rules::OUT_OF_RANGE;
 
 /// The hole of a line, where it makes one. The row before is tested, and the row itself, and no other.
 pub fn hole(table: &[i32], n: usize, line: usize) -> HoleAnswer
@@ -70,10 +70,10 @@ pub fn diameter(table: &[i32], n: usize, tool: u32) -> DiameterAnswer
         return DiameterAnswer::Refused(BAD_TABLE, 0);
     }
     if tool == 0 {
-        return DiameterAnswer::Refused(OUT_OF_RANGE, 0);
+        return DiameterAnswer::Refused(NO_SUCH_TOOL, 0);
     }
     if MAX_TOOL < tool {
-        return DiameterAnswer::Refused(OUT_OF_RANGE, 0);
+        return DiameterAnswer::Refused(NO_SUCH_TOOL, 0);
     }
     find_diameter(table, n, tool)
 }

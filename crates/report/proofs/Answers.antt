@@ -73,12 +73,12 @@ module _ (rev : Revision) (file : List ℕ) (table : List ℤ) (text : List ℕ)
         let q : j ≡ i = cc in
         rw (← p, ← q) f
 
-    refused-text : (e : Refusal) (i : ℕ) → readAnswer rev file table ≡ Refused e i → printedLine (bytes "refused") (decimals (e .number ∷ i ∷ [])) ≡ printed rev file
+    refused-text : (e : Refusal) (i : ℕ) → readAnswer rev file table ≡ Refused e i → printedLine (bytes "refused") (decimals (e .number ∷ i ∷ e .column ∷ [])) ≡ printed rev file
     unfolding printed refusedText decimals
     refused-text e i a = rw (refusal e i a (fileOf rev file) refl)
 
     pub file-refused : {a : Answer} {T : List ℤ} → said a ≡ said (readAnswer rev file table) → T ≡ readLeaves rev file table → (e : Refusal) (i : ℕ) → a ≡ Refused e i
-        → {text′ : List ℕ} {r : ℕ} → Wrote text 0 (printedLine (bytes "refused") (decimals (e .number ∷ i ∷ []))) text′ r → Reports rev file table text r T text′
+        → {text′ : List ℕ} {r : ℕ} → Wrote text 0 (printedLine (bytes "refused") (decimals (e .number ∷ i ∷ e .column ∷ []))) text′ r → Reports rev file table text r T text′
     file-refused ae le e i g p = reported le _ (refused-text e i (sym (said-one ae) ∙ g)) p
 
     -- ---- an accepted file

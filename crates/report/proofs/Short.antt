@@ -62,9 +62,9 @@ count-short : (c : ℕ) → length (printedLine (bytes "holes") (decimal c ∷ [
 unfolding decimals
 count-short c = numbers-short (bytes "holes") (c ∷ [])
 
-refused-short : (e : Refusal) (i : ℕ) → length (refusedText e i) ≤ 50
+refused-short : (e : Refusal) (i : ℕ) → length (refusedText e i) ≤ 71
 unfolding refusedText decimals
-refused-short e i = numbers-short (bytes "refused") (e .number ∷ i ∷ [])
+refused-short e i = numbers-short (bytes "refused") (e .number ∷ i ∷ e .column ∷ [])
 
 -- ---- lines of holes
 

@@ -58,7 +58,7 @@ pub fn holes(file: &[u8], revision: Revision, table: &mut [i32], text: &mut [u8]
     }
     match reader::read(file, revision, table) {
         Answer::Refused(refusal, line) => {
-            let fields = [refusal.number as u64, line as u64];
+            let fields = [refusal.number as u64, line as u64, refusal.column as u64];
             print::put_numbers_line(text, 0, b"refused", &fields)
         }
         Answer::Done(n) => put_rows(text, table, n),

@@ -18,10 +18,10 @@ use Rattle.points.specs.declared.Arc.{Arc}
 use Rattle.rules.specs.declared.Command.{Command}
 use Rattle.rules.specs.declared.Command.the-variants.{Comment, M48, Metric, Inch, Declare, Percent, G05, G00, Select, Hit, M15, M16, G01, G02, G03, M30}
 use Rattle.rules.specs.declared.Revision.{Revision}
-use Rattle.rules.specs.Numbers.{maxLine, maxLines, maxNumber, maxTool, isDigit, digitsOf, Decimal, got, onNumber, unsignedOf, millionths, isCoordinate, isSize}
+use Rattle.rules.specs.Numbers.{maxLine, maxLines, maxNumber, maxTool, isDigit, digitsOf, Decimal, got, onNumber, unsignedOf, millionths}
 use Rattle.rules.specs.Lines.{LF, CR, linesOf, isPrintable}
 use Rattle.rules.specs.Kinds.{isComment}
-use Rattle.rules.specs.Commands.{Form, g00, hit, g01, g02, g03, Formed, no-form, atEnd, noSemicolon, commentForm, pointForm, arcForm, toolForm, formOf, says, pointOf, inRange, meaningOf, onForm, commandOf, lineOf}
+use Rattle.rules.specs.Commands.{Form, g00, hit, g01, g02, g03, Formed, no-form, atEnd, noSemicolon, commentForm, pointForm, arcForm, toolForm, formOf, says, pointOf, inRange, pointInRange, arcInRange, meaningOf, onForm, commandOf, lineOf}
 use Rattle.rules.specs.Reading.{answerIn, commandIn}
 use Rattle.rules.specs.Writing.{lastDigits, widthOf, placesOf, fractionText, numberText, coordinateText, toolText, pointText, arcText, spelt, lineText, longestLine}
 use Rattle.rules.specs.Ranges.{PointOk, ArcOk, CommandOk}
@@ -121,9 +121,6 @@ point-form p rest k h e q =
       coordinate-back (p .y) rest (h .y-range) e q,
     )
 
-point-in-range : (p : Point) → PointOk p → (isCoordinate (writtenCoordinate (p .x)) && isCoordinate (writtenCoordinate (p .y))) ≡ true
-point-in-range p h = rw (written-coordinate (p .x) (h .x-range), written-coordinate (p .y) (h .y-range))
-
 point-is : (p : Point) → pointOf (writtenCoordinate (p .x)) (writtenCoordinate (p .y)) ≡ p
 point-is p = λ i. record { x = written-is (p .x) i; y = written-is (p .y) i }
 
@@ -134,26 +131,27 @@ number-end v h = ap unsignedOf (sym (append-nil (numberText v))) ∙ number-back
 tool-end : (t : ℕ) → t ≤ maxTool → digitsOf (toolText t) ≡ record { value = t; count = 2; rest = [] }
 tool-end t h = ap digitsOf (sym (append-nil (toolText t))) ∙ tool-back t [] h tt
 
-point-back : (p : Point) (form : Decimal → Decimal → Form) (command : Point → Command)
-    → ((x y : Decimal) → meaningOf (form x y) ≡ inRange (isCoordinate x && isCoordinate y) (command (pointOf x y)))
-    → PointOk p → onForm (pointForm (pointText p) (λ x y rest. atEnd rest (form x y))) ≡ says (command p)
+point-back : (after : ℕ → ℕ) (p : Point) (form : Decimal → Decimal → Form) (command : Point → Command)
+    → ((x y : Decimal) → meaningOf after (form x y) ≡ pointInRange after x y (says (command (pointOf x y))))
+    → PointOk p → onForm after (pointForm (pointText p) (λ x y rest. atEnd rest (form x y))) ≡ says (command p)
 unfolding startsWith inRange
-point-back p form command m h =
-    ap (λ (l : List ℕ). onForm (pointForm l (λ x y rest. atEnd rest (form x y)))) (sym (append-nil (pointText p)))
-    ∙ rw (point-form p [] (λ x y rest. atEnd rest (form x y)) h tt refl, m (writtenCoordinate (p .x)) (writtenCoordinate (p .y)), point-in-range p h, point-is p)
+point-back after p form command m h =
+    ap (λ (l : List ℕ). onForm after (pointForm l (λ x y rest. atEnd rest (form x y)))) (sym (append-nil (pointText p)))
+    ∙ rw (point-form p [] (λ x y rest. atEnd rest (form x y)) h tt refl, m (writtenCoordinate (p .x)) (writtenCoordinate (p .y)), written-coordinate (p .x) (h .x-range), written-coordinate (p .y) (h .y-range), point-is p)
 
-arc-back : (a : Arc) (form : Decimal → Decimal → Decimal → Form) (command : Arc → Command)
-    → ((x y r : Decimal) → meaningOf (form x y r) ≡ inRange (isCoordinate x && isCoordinate y && isSize r) (command (record { to = pointOf x y; radius = millionths r })))
-    → ArcOk a → onForm (arcForm (arcText a) form) ≡ says (command a)
+arc-back : (after : ℕ → ℕ) (a : Arc) (form : Decimal → Decimal → Decimal → Form) (command : Arc → Command)
+    → ((x y r : Decimal) → meaningOf after (form x y r) ≡ arcInRange after x y r (says (command (record { to = pointOf x y; radius = millionths r }))))
+    → ArcOk a → onForm after (arcForm (arcText a) form) ≡ says (command a)
 unfolding arcForm arcText startsWith isDigit inRange
-arc-back a form command m h =
+arc-back after a form command m h =
     rw (
       point-form (a .to) (bytes "A" ++ numberText (a .radius))
           (λ x y rest. cond (startsWith rest (bytes "A")) (onNumber (unsignedOf (drop 1 rest)) no-form (λ r rest′. atEnd rest′ (form x y r))) no-form)
           (h .to-range) refl refl,
       number-end (a .radius) (h .radius-range .high),
       m (writtenCoordinate (a .to .x)) (writtenCoordinate (a .to .y)) (written false (a .radius)),
-      point-in-range (a .to) (h .to-range),
+      written-coordinate (a .to .x) (h .to-range .x-range),
+      written-coordinate (a .to .y) (h .to-range .y-range),
       written-size (a .radius) (h .radius-range .low) (h .radius-range .high),
       point-is (a .to),
       written-millionths (a .radius) false,
@@ -184,14 +182,14 @@ command-back rev Inch h = refl
 command-back rev (Declare t d) h = declare-back rev t d h
 command-back rev Percent h = refl
 command-back rev G05 h = refl
-command-back rev (G00 p) h = point-back p g00 G00 (λ x y. refl) h
+command-back rev (G00 p) h = point-back _ p g00 G00 (λ x y. refl) h
 command-back rev (Select t) h = select-back rev t h
-command-back rev (Hit p) h = point-back p hit Hit (λ x y. refl) h
+command-back rev (Hit p) h = point-back _ p hit Hit (λ x y. refl) h
 command-back rev M15 h = refl
 command-back rev M16 h = refl
-command-back rev (G01 p) h = point-back p g01 G01 (λ x y. refl) h
-command-back rev (G02 a) h = arc-back a g02 G02 (λ x y r. refl) h
-command-back rev (G03 a) h = arc-back a g03 G03 (λ x y r. refl) h
+command-back rev (G01 p) h = point-back _ p g01 G01 (λ x y. refl) h
+command-back rev (G02 a) h = arc-back _ a g02 G02 (λ x y r. refl) h
+command-back rev (G03 a) h = arc-back _ a g03 G03 (λ x y r. refl) h
 command-back rev M30 h = refl
 
 -- ---- a command's line

@@ -2,3 +2,4 @@ pub mod Same
 pub mod Said
 pub mod Tests
 pub mod Revisions
+pub mod Columns

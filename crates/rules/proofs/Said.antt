@@ -1,5 +1,6 @@
 -- Two answers of the same number and values are the same.
 use mathlib.Core.Path.{_≡_, refl}
+use Prim.Native.Nat.{ℕ}
 use Rattle.rules.specs.declared.Hole.{Hole}
 use Rattle.rules.specs.declared.Refusal.{Refusal}
 use Rattle.rules.specs.declared.Answer.{Answer}
@@ -8,16 +9,19 @@ use Rattle.rules.specs.declared.HoleAnswer.{HoleAnswer}
 use Rattle.rules.specs.declared.HoleAnswer.the-variants as H
 use Rattle.rules.specs.declared.DiameterAnswer.{DiameterAnswer}
 use Rattle.rules.specs.declared.DiameterAnswer.the-variants as D
-use Rattle.rules.specs.Answers.{said, holeNumbers, holeSaid, diameterSaid}
+use Rattle.rules.specs.Answers.{refused, said, holeNumbers, holeSaid, diameterSaid}
 
-refusal-by : (e f : Refusal) → e .number ≡ f .number → e ≡ f
-refusal-by e f h = λ i. record { number = h i }
+refusal-by : (e f : Refusal) (i j : ℕ) → refused e i ≡ refused f j → e ≡ f
+refusal-by e f i j h =
+    let number : e .number ≡ f .number = cc in
+    let column : e .column ≡ f .column = cc in
+    λ i. record { number = number i; column = column i }
 
 answer-by : (a b : Answer) → said a ≡ said b → a ≡ b
 answer-by (A.Done n) (A.Done m) h = cc
 answer-by (A.Done n) (A.Refused f j) h = cc
 answer-by (A.Refused e i) (A.Done m) h = cc
-answer-by (A.Refused e i) (A.Refused f j) h = cc (refusal-by e f cc)
+answer-by (A.Refused e i) (A.Refused f j) h = cc (refusal-by e f i j h)
 
 pub said-one : {a b : Answer} → said a ≡ said b → a ≡ b
 said-one {a} {b} h = answer-by a b h
@@ -50,7 +54,7 @@ hole-answer-by H.Nothing H.Nothing e = refl
 hole-answer-by H.Nothing (H.Refused f j) e = cc
 hole-answer-by (H.Refused e i) (H.Makes h) q = cc
 hole-answer-by (H.Refused e i) H.Nothing q = cc
-hole-answer-by (H.Refused e i) (H.Refused f j) q = cc (refusal-by e f cc)
+hole-answer-by (H.Refused e i) (H.Refused f j) q = cc (refusal-by e f i j q)
 
 pub hole-said-one : {a b : HoleAnswer} → holeSaid a ≡ holeSaid b → a ≡ b
 hole-said-one {a} {b} h = hole-answer-by a b h
@@ -59,7 +63,7 @@ diameter-by : (a b : DiameterAnswer) → diameterSaid a ≡ diameterSaid b → a
 diameter-by (D.Is d) (D.Is c) h = cc
 diameter-by (D.Is d) (D.Refused f j) h = cc
 diameter-by (D.Refused e i) (D.Is c) h = cc
-diameter-by (D.Refused e i) (D.Refused f j) h = cc (refusal-by e f cc)
+diameter-by (D.Refused e i) (D.Refused f j) h = cc (refusal-by e f i j h)
 
 pub diameter-said-one : {a b : DiameterAnswer} → diameterSaid a ≡ diameterSaid b → a ≡ b
 diameter-said-one {a} {b} h = diameter-by a b h

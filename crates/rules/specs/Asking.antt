@@ -15,7 +15,7 @@ use Rattle.rules.specs.declared.Declared.{Declared}
 use Rattle.rules.specs.declared.Declared.the-variants.{Diameter, Other}
 use Rattle.rules.specs.declared.DiameterAnswer.{DiameterAnswer}
 use Rattle.rules.specs.declared.DiameterAnswer.the-variants.{Is, Refused}
-use Rattle.rules.specs.Refusals.{noSuchLine, badTable, outOfRange, notDeclared}
+use Rattle.rules.specs.Refusals.{noSuchLine, noSuchTool, badTable, notDeclared}
 use Rattle.rules.specs.Numbers.{isTool}
 use Rattle.rules.specs.Rows.{entriesOf, sizesFit}
 use Rattle.rules.specs.Holes.{holeOf}
@@ -64,7 +64,7 @@ diameterIn t [] i = Refused notDeclared 0
 diameterIn t (bad ∷ es) i = Refused badTable (i + 1)
 diameterIn t (holds r ∷ es) i = onDeclared (declaredBy t (r .command)) (diameterIn t es (i + 1))
 
--- ours: 18 at line 0 for the sizes, 7 at line 0 for a tool not 1 to 99, then the rows, then 10 at line 0
+-- ours: 18 at line 0 for the sizes, 7 at line 0 and in no column for a tool not 1 to 99, then the rows, then 10 at line 0
 unfoldable pub diameterAnswer : List ℤ → ℕ → ℕ → DiameterAnswer
 diameterAnswer t n tool =
-    cond (sizesFit t n) (cond (isTool tool) (diameterIn tool (entriesOf n t) 0) (Refused outOfRange 0)) (Refused badTable 0)
+    cond (sizesFit t n) (cond (isTool tool) (diameterIn tool (entriesOf n t) 0) (Refused noSuchTool 0)) (Refused badTable 0)

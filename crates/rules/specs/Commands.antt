@@ -1,8 +1,9 @@
 -- Document 01, "Command kinds": which line has which form, and which command a form means. The form of the whole line
--- is decided before any range. By document 02's #102 the form of a declaration depends on the revision, and no other does.
+-- is decided before any range. By document 02's #102 the form of a declaration depends on the revision, and no other does; by its #106
+-- a number out of range is refused in its column.
 use mathlib.Core.Bool.{Bool, true, false, _&&_, not, cond}
 use mathlib.Core.List.{List, [], _∷_}
-use Prim.Native.Nat.{ℕ}
+use Prim.Native.Nat.{ℕ, suc, _+_}
 use Prim.Native.Char.{code}
 use lib.Dec.{leb, eqb}
 use lib.ListN.{length, drop}
@@ -16,7 +17,7 @@ use Rattle.rules.specs.declared.Refusal.{Refusal}
 use Rattle.rules.specs.declared.LineAnswer.{LineAnswer}
 use Rattle.rules.specs.Refusals.{noRefusal, lineTooLong, forbiddenByte, noSuchForm, outOfRange}
 use Rattle.rules.specs.Numbers.{maxLine, DigitRun, digitsOf, Decimal, onNumber, unsignedOf, signedOf, millionths, isCoordinate, coordinateOf, isSize, isTool}
-use Rattle.rules.specs.Lines.{isPrintable}
+use Rattle.rules.specs.Lines.{isPrintable, allowedBytes}
 
 -- ---- the forms: a kind with its numbers as they are written
 
@@ -115,7 +116,18 @@ formOf rev l =
     (cond (startsWith l (bytes "M30")) (atEnd (drop 3 l) m30)
     no-form))))))))))))))
 
--- ---- what a form means: the command, or out of range
+-- ---- where a number stands: behind its letter, which a form has once
+
+-- the column behind the first byte c of l, before which k others stand; columns count from 1
+unfoldable pub columnAfter : ℕ → List ℕ → ℕ → ℕ
+columnAfter k [] c = 0
+columnAfter k (b ∷ l) c = cond (eqb b c) (k + 2) (columnAfter (suc k) l c)
+
+-- a tool number's: T is the first byte of its line
+abbrev pub toolColumn : ℕ
+toolColumn = 2
+
+-- ---- what a form means: the command, or that a number is out of range. Numbers are asked from left to right
 
 abbrev pub says : Command → LineAnswer
 says c = record { refusal = noRefusal; command = c }
@@ -126,36 +138,44 @@ saysNo e = record { refusal = e; command = Comment }
 abbrev pub pointOf : Decimal → Decimal → Point
 pointOf x y = record { x = coordinateOf x; y = coordinateOf y }
 
-unfoldable pub inRange : Bool → Command → LineAnswer
-inRange true c = says c
-inRange false c = saysNo outOfRange
+-- a number in column c, in range or not, and what is answered where it is
+unfoldable pub inRange : Bool → ℕ → LineAnswer → LineAnswer
+inRange true c a = a
+inRange false c a = saysNo (outOfRange c)
 
-unfoldable pub meaningOf : Form → LineAnswer
-meaningOf comment = says Comment
-meaningOf m48 = says M48
-meaningOf metric = says Metric
-meaningOf inch = says Inch
-meaningOf (declare t d) = inRange (isTool t && isSize d) (Declare t (millionths d))
-meaningOf percent = says Percent
-meaningOf g05 = says G05
-meaningOf (g00 x y) = inRange (isCoordinate x && isCoordinate y) (G00 (pointOf x y))
-meaningOf (select t) = inRange (isTool t) (Select t)
-meaningOf (hit x y) = inRange (isCoordinate x && isCoordinate y) (Hit (pointOf x y))
-meaningOf m15 = says M15
-meaningOf m16 = says M16
-meaningOf (g01 x y) = inRange (isCoordinate x && isCoordinate y) (G01 (pointOf x y))
-meaningOf (g02 x y r) = inRange (isCoordinate x && isCoordinate y && isSize r) (G02 (record { to = pointOf x y; radius = millionths r }))
-meaningOf (g03 x y r) = inRange (isCoordinate x && isCoordinate y && isSize r) (G03 (record { to = pointOf x y; radius = millionths r }))
-meaningOf m30 = says M30
+-- a point's two, given the column behind each letter
+abbrev pub pointInRange : (ℕ → ℕ) → Decimal → Decimal → LineAnswer → LineAnswer
+pointInRange after x y a = inRange (isCoordinate x) (after (code "X")) (inRange (isCoordinate y) (after (code "Y")) a)
 
-abbrev pub onForm : Formed → LineAnswer
-onForm (is f) = meaningOf f
-onForm no-form = saysNo noSuchForm
+abbrev pub arcInRange : (ℕ → ℕ) → Decimal → Decimal → Decimal → LineAnswer → LineAnswer
+arcInRange after x y r a = pointInRange after x y (inRange (isSize r) (after (code "A")) a)
+
+unfoldable pub meaningOf : (ℕ → ℕ) → Form → LineAnswer
+meaningOf after comment = says Comment
+meaningOf after m48 = says M48
+meaningOf after metric = says Metric
+meaningOf after inch = says Inch
+meaningOf after (declare t d) = inRange (isTool t) toolColumn (inRange (isSize d) (after (code "C")) (says (Declare t (millionths d))))
+meaningOf after percent = says Percent
+meaningOf after g05 = says G05
+meaningOf after (g00 x y) = pointInRange after x y (says (G00 (pointOf x y)))
+meaningOf after (select t) = inRange (isTool t) toolColumn (says (Select t))
+meaningOf after (hit x y) = pointInRange after x y (says (Hit (pointOf x y)))
+meaningOf after m15 = says M15
+meaningOf after m16 = says M16
+meaningOf after (g01 x y) = pointInRange after x y (says (G01 (pointOf x y)))
+meaningOf after (g02 x y r) = arcInRange after x y r (says (G02 (record { to = pointOf x y; radius = millionths r })))
+meaningOf after (g03 x y r) = arcInRange after x y r (says (G03 (record { to = pointOf x y; radius = millionths r })))
+meaningOf after m30 = says M30
+
+abbrev pub onForm : (ℕ → ℕ) → Formed → LineAnswer
+onForm after (is f) = meaningOf after f
+onForm after no-form = saysNo noSuchForm
 
 unfoldable pub commandOf : Revision → List ℕ → LineAnswer
-commandOf rev l = onForm (formOf rev l)
+commandOf rev l = onForm (columnAfter 0 l) (formOf rev l)
 
 -- ---- a line's bytes without its end: 6, 4, 5, 7 in this order
 
 unfoldable pub lineOf : Revision → List ℕ → LineAnswer
-lineOf rev l = cond (leb (length l) maxLine) (cond (isPrintable l) (commandOf rev l) (saysNo forbiddenByte)) (saysNo lineTooLong)
+lineOf rev l = cond (leb (length l) maxLine) (cond (isPrintable l) (commandOf rev l) (saysNo (forbiddenByte (allowedBytes l + 1)))) (saysNo lineTooLong)

@@ -2,7 +2,7 @@
 use mathlib.Core.Path.{_≡_}
 use mathlib.Core.Bool.{Bool, true, false, _&&_, cond}
 use mathlib.Core.List.{List, [], _∷_}
-use Prim.Native.Nat.{ℕ, _-_}
+use Prim.Native.Nat.{ℕ, suc, _-_}
 use lib.Dec.{eqb, ltb, leb}
 use lib.ListN.{length, getD, take}
 
@@ -37,9 +37,17 @@ unfoldable pub textOf : List ℕ → List ℕ
 textOf l = cond (endsInCR l) (take (length l - 1) l) l
 
 -- bytes that a line may hold
+abbrev pub isAllowed : ℕ → Bool
+isAllowed b = leb 32 b && leb b 126
+
 unfoldable pub isPrintable : List ℕ → Bool
 isPrintable [] = true
-isPrintable (b ∷ l) = leb 32 b && leb b 126 && isPrintable l
+isPrintable (b ∷ l) = isAllowed b && isPrintable l
+
+-- how many of them it begins with: the first forbidden byte stands behind these
+unfoldable pub allowedBytes : List ℕ → ℕ
+allowedBytes [] = 0
+allowedBytes (b ∷ l) = cond (isAllowed b) (suc (allowedBytes l)) 0
 
 -- bytes without a given one, and without LF
 abbrev pub NoByte : ℕ → List ℕ → Type 0

@@ -1,4 +1,5 @@
--- Document 01, "The bench file": the lines that the program prints for a file's bytes. Fields are parted by tabs.
+-- Document 01, "The bench file": the lines that the program prints for a file's bytes. Fields are parted by tabs. By document 02's #106 a
+-- refused file's line has the column as its fourth field.
 use mathlib.Core.Bool.{cond}
 use mathlib.Core.List.{List, [], _∷_, _++_}
 use Prim.Native.Nat.{ℕ, zero, suc, _+_, _-_, _/_}
@@ -91,7 +92,7 @@ holesText rs =
     unitLine rs ++ (toolLines maxTool rs ++ (holeLines start rs 0 ++ printedLine (bytes "holes") (decimal (holeCount start rs) ∷ [])))
 
 unfoldable pub refusedText : Refusal → ℕ → List ℕ
-refusedText e i = printedLine (bytes "refused") (decimal (e .number) ∷ decimal i ∷ [])
+refusedText e i = printedLine (bytes "refused") (decimal (e .number) ∷ decimal i ∷ decimal (e .column) ∷ [])
 
 unfoldable pub printed : Revision → List ℕ → List ℕ
 printed rev bs = onVerdict (fileOf rev bs) refusedText holesText

@@ -1,9 +1,16 @@
--- Document 01, "The answers": the refusals by name, in the order in which they are tested.
+-- Document 01, "The answers": the refusals by name, in the order in which they are tested. By document 02's #106 refusals 4 and 7 name a
+-- column, counted from 1, and all others column 0.
 use Prim.Native.Nat.{ℕ}
 use Rattle.rules.specs.declared.Refusal.{Refusal}
 
+abbrev pub noColumn : ℕ
+noColumn = 0
+
+abbrev pub inColumn : ℕ → ℕ → Refusal
+inColumn c n = record { number = n; column = c }
+
 abbrev pub refusal : ℕ → Refusal
-refusal n = record { number = n }
+refusal n = inColumn noColumn n
 
 -- no refusal: the number of success
 abbrev pub noRefusal : Refusal
@@ -21,14 +28,16 @@ lineNotEnded = refusal 3
 abbrev pub lineTooLong : Refusal
 lineTooLong = refusal 6
 
-abbrev pub forbiddenByte : Refusal
-forbiddenByte = refusal 4
+-- in the column of the first forbidden byte
+abbrev pub forbiddenByte : ℕ → Refusal
+forbiddenByte c = inColumn c 4
 
 abbrev pub noSuchForm : Refusal
 noSuchForm = refusal 5
 
-abbrev pub outOfRange : Refusal
-outOfRange = refusal 7
+-- in the column of the first byte of the leftmost number that is out of range
+abbrev pub outOfRange : ℕ → Refusal
+outOfRange c = inColumn c 7
 
 abbrev pub wrongPhase : Refusal
 wrongPhase = refusal 8
@@ -59,6 +68,10 @@ noSuchLine = refusal 16
 
 abbrev pub holdsLineEnd : Refusal
 holdsLineEnd = refusal 17
+
+-- 7 for a question's tool, which is in no text
+abbrev pub noSuchTool : Refusal
+noSuchTool = outOfRange noColumn
 
 abbrev pub badTable : Refusal
 badTable = refusal 18

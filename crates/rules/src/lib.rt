@@ -6,6 +6,8 @@ pub mod phase;
 mod steps;
 pub mod unit;
 
+ghost use mathlib.Core.Path.{_≡_};
+ghost use Rattle.rules.specs.Refusals.{inColumn, forbiddenByte, outOfRange};
 use points::Arc;
 use points::Point;
 use tools::Tools;
@@ -25,44 +27,101 @@ pub const ROW_WIDTH: usize = 15;
 /// Lent numbers of the longest table.
 pub const TABLE_ROOM: usize = ROW_WIDTH * MAX_LINES;
 
-// The refusals, in the order in which they are tested. A line that is not refused has NONE.
-pub const NONE: Refusal = Refusal { number: 0 };
+/// The column of a refusal that names none.
+pub const NO_COLUMN: usize = 0;
 
-pub const FILE_TOO_LONG: Refusal = Refusal { number: 1 };
+// The refusals, in the order in which they are tested. A line that is not refused has NONE. 4 and 7, which name a column, are
+// functions: forbidden_byte and out_of_range.
+pub const NONE: Refusal = Refusal {
+    number: 0,
+    column: NO_COLUMN,
+};
 
-pub const TOO_MANY_LINES: Refusal = Refusal { number: 2 };
+pub const FILE_TOO_LONG: Refusal = Refusal {
+    number: 1,
+    column: NO_COLUMN,
+};
 
-pub const LINE_NOT_ENDED: Refusal = Refusal { number: 3 };
+pub const TOO_MANY_LINES: Refusal = Refusal {
+    number: 2,
+    column: NO_COLUMN,
+};
 
-pub const LINE_TOO_LONG: Refusal = Refusal { number: 6 };
+pub const LINE_NOT_ENDED: Refusal = Refusal {
+    number: 3,
+    column: NO_COLUMN,
+};
 
-pub const FORBIDDEN_BYTE: Refusal = Refusal { number: 4 };
+pub const LINE_TOO_LONG: Refusal = Refusal {
+    number: 6,
+    column: NO_COLUMN,
+};
 
-pub const NO_SUCH_FORM: Refusal = Refusal { number: 5 };
+pub const NO_SUCH_FORM: Refusal = Refusal {
+    number: 5,
+    column: NO_COLUMN,
+};
 
-pub const OUT_OF_RANGE: Refusal = Refusal { number: 7 };
+pub const WRONG_PHASE: Refusal = Refusal {
+    number: 8,
+    column: NO_COLUMN,
+};
 
-pub const WRONG_PHASE: Refusal = Refusal { number: 8 };
+pub const WRONG_MOTION: Refusal = Refusal {
+    number: 12,
+    column: NO_COLUMN,
+};
 
-pub const WRONG_MOTION: Refusal = Refusal { number: 12 };
+pub const DECLARED_ALREADY: Refusal = Refusal {
+    number: 9,
+    column: NO_COLUMN,
+};
 
-pub const DECLARED_ALREADY: Refusal = Refusal { number: 9 };
+pub const NOT_DECLARED: Refusal = Refusal {
+    number: 10,
+    column: NO_COLUMN,
+};
 
-pub const NOT_DECLARED: Refusal = Refusal { number: 10 };
+pub const NO_TOOL_SELECTED: Refusal = Refusal {
+    number: 11,
+    column: NO_COLUMN,
+};
 
-pub const NO_TOOL_SELECTED: Refusal = Refusal { number: 11 };
+pub const IMPOSSIBLE_ARC: Refusal = Refusal {
+    number: 13,
+    column: NO_COLUMN,
+};
 
-pub const IMPOSSIBLE_ARC: Refusal = Refusal { number: 13 };
+pub const ENDS_TOO_SOON: Refusal = Refusal {
+    number: 14,
+    column: NO_COLUMN,
+};
 
-pub const ENDS_TOO_SOON: Refusal = Refusal { number: 14 };
+pub const NO_ROOM: Refusal = Refusal {
+    number: 15,
+    column: NO_COLUMN,
+};
 
-pub const NO_ROOM: Refusal = Refusal { number: 15 };
+pub const NO_SUCH_LINE: Refusal = Refusal {
+    number: 16,
+    column: NO_COLUMN,
+};
 
-pub const NO_SUCH_LINE: Refusal = Refusal { number: 16 };
+pub const HOLDS_LINE_END: Refusal = Refusal {
+    number: 17,
+    column: NO_COLUMN,
+};
 
-pub const HOLDS_LINE_END: Refusal = Refusal { number: 17 };
+/// 7 for a question's tool, which is in no text.
+pub const NO_SUCH_TOOL: Refusal = Refusal {
+    number: 7,
+    column: NO_COLUMN,
+};
 
-pub const BAD_TABLE: Refusal = Refusal { number: 18 };
+pub const BAD_TABLE: Refusal = Refusal {
+    number: 18,
+    column: NO_COLUMN,
+};
 
 /// The revision of XNC by whose rule a line is read. It decides how a declaration is written, and nothing else.
 pub enum Revision {
@@ -100,9 +159,10 @@ pub struct State {
     pub tools: Tools,
 }
 
-/// Why something is refused. Callers hand it upward whole.
+/// Why something is refused and, for 4 and 7, in which column of its line; columns count from 1. Callers hand it upward whole.
 pub struct Refusal {
     pub number: u32,
+    pub column: usize,
 }
 
 /// The state after a command, or why the command may not come here.
@@ -161,4 +221,27 @@ pub enum HoleAnswer {
 pub enum DiameterAnswer {
     Is(u32),
     Refused(Refusal, usize),
+}
+
+fn in_column(column: usize, number: u32) -> Refusal
+    ensures { λ r. ⌜ r ≡ inColumn column number ⌝ }
+{
+    Refusal {
+        number: number,
+        column: column,
+    }
+}
+
+/// 4, in the column of the first forbidden byte.
+pub fn forbidden_byte(column: usize) -> Refusal
+    ensures { λ r. ⌜ r ≡ forbiddenByte column ⌝ }
+{
+    in_column(column, 4)
+}
+
+/// 7, in the column of the leftmost number that is out of range.
+pub fn out_of_range(column: usize) -> Refusal
+    ensures { λ r. ⌜ r ≡ outOfRange column ⌝ }
+{
+    in_column(column, 7)
 }

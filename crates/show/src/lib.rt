@@ -55,9 +55,9 @@ pub fn hole(line: usize, hole: Hole) {
     io::write_all(STDOUT, &block[..length]);
 }
 
-/// `refused`, number and line.
+/// `refused`, number, line and column.
 pub fn refused(refusal: Refusal, line: usize) {
-    let fields = [refusal.number as u64, line as u64];
+    let fields = [refusal.number as u64, line as u64, refusal.column as u64];
     numbers(b"refused", &fields);
 }
 

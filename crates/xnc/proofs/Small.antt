@@ -1,5 +1,6 @@
--- No line and no count reaches 2^32: each goes no further than a file's lines, or the bytes of its text (crate answers, Small).
-use mathlib.Core.Path.{_≡_, sym, _∙_, subst}
+-- There is room for every part of every answer: no line and no count goes further than a file's lines or the bytes of its text, no column
+-- further than the longest line (crate answers, Small).
+use mathlib.Core.Path.{_≡_, refl, sym, _∙_, subst}
 use mathlib.Core.List.{List}
 use Prim.Native.Nat.{ℕ, _<_}
 use native.Mathlib.Omega.{arith}
@@ -10,27 +11,35 @@ use Rattle.rules.specs.declared.Refusal.{Refusal}
 use Rattle.rules.specs.declared.HoleAnswer.{HoleAnswer}
 use Rattle.rules.specs.declared.HoleAnswer.the-variants as H
 use Rattle.rules.specs.declared.Revision.{Revision}
-use Rattle.rules.specs.Answers.{Said, valueOf, said, holeSaid}
+use Rattle.rules.specs.Answers.{Said, refused, said, holeSaid}
+use Rattle.rules.specs.Refusals.{noRoom}
 use Rattle.rules.specs.Reading.{readAnswer}
 use Rattle.rules.specs.Editing.{editAnswer}
 use Rattle.rules.specs.Asking.{holeAnswer}
 use Rattle.rules.specs.Writing.{writeAnswer}
 use Rattle.rules.proofs.Said.{hole-said-one}
 use Rattle.answers.proofs.Small as Answers
-use Rattle.xnc.specs.Door.{shift}
+use Rattle.xnc.specs.Door.{wide, Narrow}
 
-pub read-small : (rev : Revision) (file : List ℕ) (table : List ℤ) {s : Said} → s ≡ said (readAnswer rev file table) → valueOf s < shift
-read-small rev file table h = rw h (omega (arith, Answers.read-small rev file table))
+narrow-of : {b : ℕ} → b < wide → {s t : Said} → s ≡ t → Answers.Small b t → Narrow s
+narrow-of h e w = rw e (record { number = omega (arith, w .number); column = omega (arith, w .column); value = omega (arith, w .value) })
 
-pub edit-small : (rev : Revision) (table : List ℤ) (n line : ℕ) (text : List ℕ) {s : Said} → s ≡ said (editAnswer rev table n line text) → valueOf s < shift
-edit-small rev table n line text h = rw h (omega (arith, Answers.edit-small rev table n line text))
+pub read-small : (rev : Revision) (file : List ℕ) (table : List ℤ) {s : Said} → s ≡ said (readAnswer rev file table) → Narrow s
+read-small rev file table h = narrow-of (omega arith) h (Answers.read-small rev file table)
 
-pub write-small : (table : List ℤ) (n : ℕ) (text : List ℕ) {s : Said} → s ≡ said (writeAnswer table n text) → valueOf s < shift
-write-small table n text h = rw h (omega (arith, Answers.write-small table n text))
+pub edit-small : (rev : Revision) (table : List ℤ) (n line : ℕ) (text : List ℕ) {s : Said} → s ≡ said (editAnswer rev table n line text) → Narrow s
+edit-small rev table n line text h = narrow-of (omega arith) h (Answers.edit-small rev table n line text)
 
-pub hole-small : (table : List ℤ) (n line : ℕ) {a : HoleAnswer} → holeSaid a ≡ holeSaid (holeAnswer table n line) → (e : Refusal) (i : ℕ) → a ≡ H.Refused e i → i < shift
-hole-small table n line h e i w = omega (arith, Answers.hole-small table n line e i (sym (hole-said-one h) ∙ w))
+pub write-small : (table : List ℤ) (n : ℕ) (text : List ℕ) {s : Said} → s ≡ said (writeAnswer table n text) → Narrow s
+write-small table n text h = narrow-of (omega arith) h (Answers.write-small table n text)
 
--- the line of an answer that is a refusal
-pub line-small : {a : Answer} (e : Refusal) (i : ℕ) → a ≡ Refused e i → valueOf (said a) < shift → i < shift
-line-small e i w h = subst (λ (x : Answer). valueOf (said x) < shift) w h
+pub hole-small : (table : List ℤ) (n line : ℕ) {a : HoleAnswer} → holeSaid a ≡ holeSaid (holeAnswer table n line) → (e : Refusal) (i : ℕ) → a ≡ H.Refused e i
+    → Narrow (refused e i)
+hole-small table n line h e i w = narrow-of (omega arith) refl (Answers.hole-small table n line e i (sym (hole-said-one h) ∙ w))
+
+-- of an answer that is a refusal
+pub refusal-small : {a : Answer} (e : Refusal) (i : ℕ) → a ≡ Refused e i → Narrow (said a) → Narrow (refused e i)
+refusal-small e i w h = subst (λ (x : Answer). Narrow (said x)) w h
+
+pub no-room-small : Narrow (refused noRoom 0)
+no-room-small = record { number = omega arith; column = omega arith; value = omega arith }

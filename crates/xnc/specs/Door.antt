@@ -1,8 +1,7 @@
--- The revision that a number names, and an answer as one number of 64 bits: its number in document 01 times 2^32, and the count or
--- line.
+-- The revision that a number names, and an answer as one number of 64 bits: its number in document 01, its column, and the count or line.
 use mathlib.Core.Bool.{cond}
 use mathlib.Core.List.{List, [], _∷_}
-use Prim.Native.Nat.{ℕ, _+_, _*_, _≤_}
+use Prim.Native.Nat.{ℕ, _+_, _*_, _<_, _≤_}
 use lib.Dec.{leb, eqb}
 use lib.IntN.{ℤ}
 use lib.ListN.{length}
@@ -13,7 +12,7 @@ use Rattle.rules.specs.declared.Hole.{Hole}
 use Rattle.rules.specs.declared.HoleAnswer.{HoleAnswer}
 use Rattle.rules.specs.declared.HoleAnswer.the-variants as H
 use Rattle.rules.specs.Refusals.{noRoom}
-use Rattle.rules.specs.Answers.{Said, success, refusal, numberOf, valueOf, said, holeSaid}
+use Rattle.rules.specs.Answers.{Said, success, refusal, numberOf, valueOf, columnOf, refused, said, holeSaid}
 use Rattle.rules.specs.declared.Refusal.{Refusal}
 use Rattle.rules.specs.declared.Answer.{Answer}
 
@@ -21,18 +20,31 @@ use Rattle.rules.specs.declared.Answer.{Answer}
 abbrev pub revisionOf : ℕ → Revision
 revisionOf n = cond (eqb n 2019) Rev2019 Rev2021
 
-abbrev pub shift : ℕ
-shift = 4294967296
+-- 2 ^ 16, the room of a number and of a column, and 2 ^ 32, the room of a value
+abbrev pub narrow : ℕ
+narrow = 65536
 
--- a number of document 01, and the value beside it
-abbrev pub both : ℕ → ℕ → ℕ
-both number value = number * shift + value
+abbrev pub wide : ℕ
+wide = 4294967296
+
+-- a number of document 01, a column, and the value beside them
+abbrev pub together : ℕ → ℕ → ℕ → ℕ
+together number column value = number * (narrow * wide) + column * wide + value
+
+-- parts for which there is room: then each is found again
+pub record Narrow (s : Said) : Type 0 where
+  pub number : numberOf s < narrow
+  pub column : columnOf s < narrow
+  pub value : valueOf s < wide
+
+abbrev pub packedSaid : Said → ℕ
+packedSaid s = together (numberOf s) (columnOf s) (valueOf s)
 
 abbrev pub packedRefusal : Refusal → ℕ → ℕ
-packedRefusal e i = both (e .number) i
+packedRefusal e i = packedSaid (refused e i)
 
 unfoldable pub packed : Answer → ℕ
-packed a = both (numberOf (said a)) (valueOf (said a))
+packed a = packedSaid (said a)
 
 -- ---- a hole as seven numbers
 
@@ -55,15 +67,15 @@ withBlock (H.Refused e i) b = H.Refused e i
 abbrev pub holeValue : Said → ℕ
 holeValue (success []) = 0
 holeValue (success (v ∷ vs)) = 1
-holeValue (refusal e i) = i
+holeValue (refusal e i c) = i
 
 unfoldable pub holePacked : HoleAnswer → List ℤ → ℕ
-holePacked a b = both (numberOf (holeSaid (withBlock a b))) (holeValue (holeSaid (withBlock a b)))
+holePacked a b = together (numberOf (holeSaid (withBlock a b))) (columnOf (holeSaid (withBlock a b))) (holeValue (holeSaid (withBlock a b)))
 
 -- the values of the answer, put first
 abbrev pub leftOf : Said → List ℤ → List ℤ
 leftOf (success vs) b = putAt b 0 vs
-leftOf (refusal e i) b = b
+leftOf (refusal e i c) b = b
 
 unfoldable pub holeLeaves : HoleAnswer → List ℤ → List ℤ
 holeLeaves a b = leftOf (holeSaid (withBlock a b)) b

@@ -1,15 +1,15 @@
-// The door for C and Rust: numbers and slices only. An answer is its number in document 01 times 2^32, plus the line of the
-// refusal or, where the number is 0, the count.
+// The door for C and Rust: numbers and slices only. An answer is its number in document 01 times 2^48, plus its column times 2^32, plus the
+// line of the refusal or, where the number is 0, the count.
 ghost use mathlib.Core.Path.{_≡_};
-ghost use Prim.Native.Nat.{_≤_, _<_};
+ghost use Prim.Native.Nat.{_≤_};
 ghost use lib.ListN.{length};
 ghost use Rattle.lists.specs.Put.{putAt};
-ghost use Rattle.rules.specs.Answers.{valueOf, said, holeNumbers};
+ghost use Rattle.rules.specs.Answers.{refused, said, holeNumbers};
 ghost use Rattle.rules.specs.Reading.{readAnswer, readLeaves};
 ghost use Rattle.rules.specs.Editing.{editAnswer, editLeaves};
 ghost use Rattle.rules.specs.Writing.{writeAnswer, writeLeaves};
 ghost use Rattle.rules.specs.Asking.{holeAnswer};
-ghost use Rattle.xnc.specs.Door.{holeWidth, revisionOf, shift, packed, packedRefusal, HoleOk, holePacked, holeLeaves};
+ghost use Rattle.xnc.specs.Door.{holeWidth, revisionOf, Narrow, packed, packedRefusal, HoleOk, holePacked, holeLeaves};
 use rules::Answer;
 use rules::Hole;
 use rules::HoleAnswer;
@@ -17,7 +17,9 @@ use rules::NO_ROOM;
 use rules::Refusal;
 use rules::Revision;
 
-const SHIFT: u64 = 4294967296;
+const NUMBER_SHIFT: u64 = 281474976710656;
+
+const COLUMN_SHIFT: u64 = 4294967296;
 
 // Numbers of a hole: kind, tool, start x and y, end x and y, radius.
 const HOLE_WIDTH: usize = 7;
@@ -32,16 +34,18 @@ fn revision_of(number: u32) -> Revision
     Revision::Rev2021
 }
 
-// A refusal's number and its line. No line and no count comes near 2^32, so nothing is cut off.
+// A refusal's number, column and line. No line and no count comes near 2^32, no number or column near 2^16, so nothing is cut off.
 fn pack_refusal(refusal: Refusal, line: usize) -> u64
-    requires { ⌜ line < shift ⌝ }
+    requires { ⌜ Narrow (refused refusal line) ⌝ }
     ensures { λ r. ⌜ r ≡ packedRefusal refusal line ⌝ }
 {
-    (refusal.number as u64) * SHIFT + line as u64
+    let number = refusal.number as u64;
+    let column = refusal.column as u64;
+    number * NUMBER_SHIFT + column * COLUMN_SHIFT + line as u64
 }
 
 fn pack(answer: Answer) -> u64
-    requires { ⌜ valueOf (said answer) < shift ⌝ }
+    requires { ⌜ Narrow (said answer) ⌝ }
     ensures { λ r. ⌜ r ≡ packed answer ⌝ }
 {
     match answer {

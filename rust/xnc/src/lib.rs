@@ -1,8 +1,14 @@
 //! Safe Rust functions over the library `xnc`.
 //!
 //! Each function lends slices to the library and hands back an [`Answer`]:
-//! number 0 with a count on success, else the refusal's number and line, with
-//! everything lent left as it was.
+//! number 0 with a count on success, else the refusal's number, line and column,
+//! with everything lent left as it was.
+//!
+//! A column says which byte of the line is refused. It counts from 1; 0 means
+//! none. Refusals 4 and 7 of [`read`] and [`edit`] have one, from 1 to 256: for 4
+//! the first forbidden byte, for 7 the first byte of the leftmost number that is
+//! out of range or has over six decimals, its sign included. All other answers
+//! have none.
 //!
 //! ```no_run
 //! let file = b"M48\nMETRIC\nT01C0.5\n%\nG05\nT1\nX2Y-3.5\nM30\n";
@@ -62,38 +68,52 @@ pub enum Revision {
     Rev2021 = 2021,
 }
 
-/// What a function answers: number 0 and a count, or a refusal's number and
-/// line.
+/// What a function answers: number 0 and a count, or a refusal's number, line
+/// and column.
 #[derive(Clone, Copy, Debug, PartialEq, Eq)]
 pub struct Answer {
     pub number: u32,
+    /// The count, or the refusal's line.
     pub value: u32,
+    /// The refusal's column, counted from 1; 0 means none.
+    pub column: u32,
 }
 
-/// A refusal's number and line.
+/// A refusal's number, line and column.
 #[derive(Clone, Copy, Debug, PartialEq, Eq)]
 pub struct Refusal {
     pub number: u32,
     pub line: u32,
+    /// Counted from 1; 0 means none.
+    pub column: u32,
 }
 
 impl Answer {
+    /// Number and column have 16 bits each, above the 32 of the value.
     fn unpack(answer: u64) -> Answer {
-        Answer { number: (answer >> 32) as u32, value: answer as u32 }
+        Answer {
+            number: (answer >> 48) as u32,
+            value: answer as u32,
+            column: (answer >> 32) as u32 & 0xFFFF,
+        }
     }
 
     /// The count, or the refusal.
     pub fn result(self) -> Result<u32, Refusal> {
         match self.number {
             0 => Ok(self.value),
-            number => Err(Refusal { number, line: self.value }),
+            number => Err(Refusal { number, line: self.value, column: self.column }),
         }
     }
 }
 
 impl fmt::Display for Refusal {
     fn fmt(&self, f: &mut fmt::Formatter<'_>) -> fmt::Result {
-        write!(f, "refused {} at {}", self.number, self.line)
+        write!(f, "refused {} at {}", self.number, self.line)?;
+        match self.column {
+            0 => Ok(()),
+            column => write!(f, ", column {column}"),
+        }
     }
 }
 

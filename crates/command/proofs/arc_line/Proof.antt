@@ -53,27 +53,27 @@ returns-4 c =
 
 returns-5 : tie.Need-returns-5
 returns-5 c =
-    let b = c .before .before .before .before in
+    let b = c .before .before .before .before .before in
     let d = b .before .before .before .before .before in
     let f = d .before .before .before .before .before .before .before in
     let a = f .before .before .args in
     c .says-no5 .ensures
     ∙ arc-ends (a .s .now) (a .at) (f .pair-at .ensures) (d .before .before .before .before .before .p .given .1) (a .kind) (d .before .before .stands .ensures)
     (d .before .if1 .left)
-    (d .unsigned .ensures) (b .before .before .before .a .given .1) (b .if2 .left) (c .before .before .before .place .ensures) (c .before .enum-told3 .given .1) refl refl
+    (d .unsigned .ensures) (b .before .before .before .a .given .1) (b .if2 .left) (c .before .before .before .before .place .ensures) (c .before .before .refusal .given .1) refl refl
 
 returns-6 : tie.Need-returns-6
 returns-6 c =
-    let b = c .before .before .before .before .before .before .before .before in
+    let b = c .before .before .before .before .before .before .before .before .before in
     let d = b .before .before .before .before .before in
     let f = d .before .before .before .before .before .before .before in
     let a = f .before .before .args in
     c .says-no6 .ensures
     ∙ arc-ends (a .s .now) (a .at) (f .pair-at .ensures) (d .before .before .before .before .before .p .given .1) (a .kind) (d .before .before .stands .ensures)
     (d .before .if1 .left)
-    (d .unsigned .ensures) (b .before .before .before .a .given .1) (b .if2 .left) (c .before .before .before .before .before .before .before .place .ensures)
-    (c .before .before .before .before .before .to .given .1)
-    (c .before .before .before .size .ensures) (c .before .enum-told4 .given .1)
+    (d .unsigned .ensures) (b .before .before .before .a .given .1) (b .if2 .left) (c .before .before .before .before .before .before .before .before .place .ensures)
+    (c .before .before .before .before .before .before .to .given .1)
+    (c .before .before .before .before .size .ensures) (c .before .before .refusal2 .given .1)
 
 returns-7 : tie.Need-returns-7
 returns-7 c =
@@ -111,14 +111,14 @@ arc-line-spec =
     returns-4
     (λ c κs. search needs)
     (λ c. search needs)
+    (λ c κs. search needs)
     (λ c. search needs)
+    (λ c κs. search needs)
+    (λ c. search needs)
+    (λ c κs. search needs)
+    (λ c. search needs)
+    (λ c κs. search needs)
     (λ c κs. search needs)
     returns-5
-    (λ c κs. search needs)
-    (λ c. search needs)
-    (λ c. search needs)
-    (λ c κs. search needs)
     returns-6
-    (λ c κs. search needs)
-    (λ c κs. search needs)
     returns-7)

@@ -22,10 +22,10 @@ shared-slice-read-if1 : tie.Need-shared-slice-read-if1 Inv-loop μ-loop
 shared-slice-read-if1 c = omega arith
 
 returns : tie.Need-returns Inv-loop μ-loop
-returns c =
+returns c rev =
     let b = c .before .before .before .before in
     c .says-no .ensures ∙ second-semicolon (b .before .before .args .s .now) _ (b .loop .i) (b .loop .inv) (c .before .before .before .loop-test .taken)
-    (c .before .if1 .taken)
+    (c .before .if1 .taken) rev
 
 add-i : tie.Need-add-i Inv-loop μ-loop
 add-i c = omega arith
@@ -40,9 +40,9 @@ loop-again c =
     (c .if1 .left)
 
 returns-2 : tie.Need-returns-2 Inv-loop μ-loop
-returns-2 c =
+returns-2 c rev =
     let b = c .before .before in
-    c .says .ensures ∙ no-semicolon (b .before .before .args .s .now) _ (b .loop .i) (b .loop .inv) (c .before .loop-test .left)
+    c .says .ensures ∙ no-semicolon (b .before .before .args .s .now) _ (b .loop .i) (b .loop .inv) (c .before .loop-test .left) rev
 
 pub comment-line-spec : {M : Type 1} → statement M
 comment-line-spec =

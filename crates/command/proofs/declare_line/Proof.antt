@@ -1,6 +1,7 @@
 -- The form to the end of the line first, then the ranges: each way out is one law.
-use mathlib.Core.Path.{_∙_}
+use mathlib.Core.Path.{ap, _∙_}
 use native.Mathlib.Omega.{arith}
+use Rattle.rules.specs.Commands.{saysNo}
 use Rattle.command.proofs.Tools.{declare-none, declare-goes-on, declare-zero, declare-ends}
 use borrow.Author.Needs.{needs}
 use Rattle.command.proofs.declare_line.Statement.{statement}
@@ -19,21 +20,20 @@ returns-2 c =
 
 returns-3 : tie.Need-returns-3
 returns-3 c =
-    let b = c .before .before .before .before .before .before .before in
+    let b = c .before .before .before .before .before .before .before .before in
     let a = b .before .before .args in
-    c .says-no3 .ensures
-    ∙ declare-zero (a .s .now) (a .at) (a .tool) (b .unsigned .ensures) (c .before .before .before .before .before .d .given .1) (c .before .before .if1 .left)
-    (c .before .if2 .taken)
+    c .says-no3 .ensures ∙ ap saysNo (c .before .out-of-range .ensures)
+    ∙ declare-zero (a .s .now) (a .at) (a .tool) (b .unsigned .ensures) (c .before .before .before .before .before .before .d .given .1) (c .before .before .before .if1 .left) (c .before .before .if2 .taken)
 
 returns-4 : tie.Need-returns-4
 returns-4 c =
-    let d = c .before .before .before in
+    let d = c .before .before .before .before in
     let b = d .before .before .before .before .before .before .before in
     let a = b .before .before .args in
     c .says-no4 .ensures
     ∙ declare-ends (a .s .now) (a .at) (a .tool) (b .unsigned .ensures) (d .before .before .before .before .before .d .given .1) (d .before .before .if1 .left)
     (d .before .if2 .left) (omega arith)
-    (d .size .ensures) (c .before .enum-told2 .given .1)
+    (d .size .ensures) (c .before .before .refusal .given .1)
 
 returns-5 : tie.Need-returns-5
 returns-5 c =
@@ -57,11 +57,12 @@ declare-line-spec =
     (λ c κs. search needs)
     returns-2
     (λ c κs. search needs)
+    (λ c κs. search needs)
     returns-3
     (λ c κs. search needs)
     (λ c. search needs)
+    (λ c κs. search needs)
     (λ c. search needs)
     (λ c κs. search needs)
     returns-4
-    (λ c κs. search needs)
     returns-5)

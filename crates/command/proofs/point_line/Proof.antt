@@ -20,11 +20,12 @@ returns-2 c =
 
 returns-3 : tie.Need-returns-3
 returns-3 c =
-    let b = c .before .before .before .before .before .before .before .before .before .before in
+    let d = c .before .before .before .before in
+    let b = d .before .before .before .before .before .before .before in
     let a = b .before .before .args in
     c .says-no3 .ensures
-    ∙ point-ends (a .s .now) (a .at) (b .pair-at .ensures) (c .before .before .before .before .before .before .before .before .p .given .1) (a .kind)
-    (c .before .before .before .before .if1 .left) (c .before .before .before .place .ensures) (c .before .enum-told2 .given .1)
+    ∙ point-ends (a .s .now) (a .at) (b .pair-at .ensures) (d .before .before .before .before .before .p .given .1) (a .kind) (d .before .if1 .left)
+    (d .place .ensures) (c .before .before .refusal .given .1)
 
 returns-4 : tie.Need-returns-4
 returns-4 c =
@@ -48,9 +49,9 @@ point-line-spec =
     returns-2
     (λ c κs. search needs)
     (λ c. search needs)
+    (λ c κs. search needs)
     (λ c. search needs)
     (λ c κs. search needs)
+    (λ c κs. search needs)
     returns-3
-    (λ c κs. search needs)
-    (λ c κs. search needs)
     returns-4)

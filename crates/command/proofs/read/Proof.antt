@@ -5,7 +5,7 @@ use Rattle.lists.specs.Words.{bytes, startsWith}
 use Rattle.rules.specs.declared.Command.the-variants as K
 use Rattle.rules.specs.Commands.{inch, percent, formOf, meaningOf, commandOf}
 use Rattle.command.proofs.Words.{word-is}
-use Rattle.command.proofs.Letters.{empty-line, first-is, first-x, first-other}
+use Rattle.command.proofs.Letters.{empty-line, first-is, first-x, first-t, first-other}
 use borrow.Author.Needs.{needs}
 use Rattle.command.proofs.read.Statement.{statement}
 use Rattle.command.proofs.read.Tie as tie
@@ -31,28 +31,26 @@ returns-4 c =
     c .m-line .ensures _ ∙ first-is (a .revision) (a .s .now) (c .before .before .before .if1 .left) (c .before .match .keys3)
 
 returns-5 : tie.Need-returns-5
-unfolding commandOf formOf startsWith
 returns-5 c =
     let a = c .before .before .before .before .before .args in
-    c .tool-line .ensures ∙ first-is (a .revision) (a .s .now) (c .before .before .before .if1 .left) (c .before .match .keys4)
+    c .tool-line .ensures ∙ first-t (a .revision) (a .s .now) (c .before .before .before .if1 .left) (c .before .match .keys4)
 
 returns-6 : tie.Need-returns-6
 unfolding commandOf formOf startsWith meaningOf
 returns-6 c =
     let a = c .before .before .before .before .before .before .args in
-    c .word-line .ensures ∙ word-is _ [] percent K.Percent refl ∙ first-is (a .revision) (a .s .now) (c .before .before .before .before .if1 .left) (c .before .before .match .keys5)
+    c .word-line .ensures ∙ word-is _ _ [] percent K.Percent refl ∙ first-is (a .revision) (a .s .now) (c .before .before .before .before .if1 .left) (c .before .before .match .keys5)
 
 returns-7 : tie.Need-returns-7
-unfolding commandOf formOf startsWith
 returns-7 c =
     let a = c .before .before .before .before .before .args in
-    c .comment-line .ensures ∙ first-is (a .revision) (a .s .now) (c .before .before .before .if1 .left) (c .before .match .keys6)
+    c .comment-line .ensures _ ∙ first-is (a .revision) (a .s .now) (c .before .before .before .if1 .left) (c .before .match .keys6)
 
 returns-8 : tie.Need-returns-8
 unfolding commandOf formOf startsWith meaningOf
 returns-8 c =
     let a = c .before .before .before .before .before .before .args in
-    c .word-line2 .ensures ∙ word-is _ (bytes "NCH") inch K.Inch refl ∙ first-is (a .revision) (a .s .now) (c .before .before .before .before .if1 .left) (c .before .before .match .keys7)
+    c .word-line2 .ensures ∙ word-is _ _ (bytes "NCH") inch K.Inch refl ∙ first-is (a .revision) (a .s .now) (c .before .before .before .before .if1 .left) (c .before .before .match .keys7)
 
 returns-9 : tie.Need-returns-9
 returns-9 c =

@@ -1,7 +1,8 @@
 -- The digits are counted before they are a number; two of them are at most 99.
-use mathlib.Core.Path.{_∙_}
+use mathlib.Core.Path.{ap, _∙_}
 use native.Mathlib.Omega.{arith}
 use Rattle.lists.proofs.Choice.{failed, passed}
+use Rattle.rules.specs.Commands.{saysNo}
 use Rattle.command.proofs.Tools.{declare-count, declare-near, declare-small, declare-fits, select-count, select-goes-on, select-zero, select-is}
 use borrow.Author.Needs.{needs}
 use Rattle.command.proofs.tool_line.Statement.{statement}
@@ -55,11 +56,12 @@ returns-4 c =
 
 returns-5 : tie.Need-returns-5
 returns-5 c =
-    let d = c .before .before .before .before in
+    let d = c .before .before .before .before .before in
     let b = d .before .before in
     let a = b .before .before .before .before .args in
-    c .says-no4 .ensures ∙ select-zero (a .revision) (a .s .now) (b .before .before .run-at .ensures .0) (b .stands .ensures) (d .before .if1 .left)
-    (passed (d .tool-digits2 .ensures) (c .before .before .before .if3 .left)) (c .before .before .if4 .left) (c .before .if5 .taken)
+    c .says-no4 .ensures ∙ ap saysNo (c .before .out-of-range .ensures)
+    ∙ select-zero (a .revision) (a .s .now) (b .before .before .run-at .ensures .0) (b .stands .ensures) (d .before .if1 .left)
+    (passed (d .tool-digits2 .ensures) (c .before .before .before .before .if3 .left)) (c .before .before .before .if4 .left) (c .before .before .if5 .taken)
 
 returns-6 : tie.Need-returns-6
 returns-6 c =
@@ -88,6 +90,7 @@ tool-line-spec =
     returns-3
     (λ c κs. search needs)
     returns-4
+    (λ c κs. search needs)
     (λ c κs. search needs)
     returns-5
     (λ c κs. search needs)

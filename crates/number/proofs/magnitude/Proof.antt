@@ -15,18 +15,18 @@ add-first c =
 returns : tie.Need-returns
 returns c =
     let b = c .before .before .before in
-    point-none _ _ _ _ (b .before .run-at .ensures .0) (b .stands .ensures) (c .before .before .if1 .taken) _ (c .before .digits .ensures .0) (c .if2 .taken)
+    point-none _ _ _ _ _ (b .before .run-at .ensures .0) (b .stands .ensures) (c .before .before .if1 .taken) _ (c .before .digits .ensures .0) (c .if2 .taken)
 
 returns-2 : tie.Need-returns-2
 returns-2 c =
     let b = c .before .before .before in
-    point-got _ _ _ _ (b .before .run-at .ensures .0) (b .stands .ensures) (c .before .before .if1 .taken) _ (c .before .digits .ensures .0) (c .if2 .left)
+    point-got _ _ _ _ _ (b .before .run-at .ensures .0) (b .stands .ensures) (c .before .before .if1 .taken) _ (c .before .digits .ensures .0) (c .if2 .left)
 
 returns-3 : tie.Need-returns-3
-returns-3 c = whole-none _ _ _ _ (c .before .before .before .run-at .ensures .0) (c .before .before .stands .ensures) (c .before .if1 .left) (c .if3 .taken)
+returns-3 c = whole-none _ _ _ _ _ (c .before .before .before .run-at .ensures .0) (c .before .before .stands .ensures) (c .before .if1 .left) (c .if3 .taken)
 
 returns-4 : tie.Need-returns-4
-returns-4 c = whole-got _ _ _ _ (c .before .before .before .run-at .ensures .0) (c .before .before .stands .ensures) (c .before .if1 .left) (c .if3 .left)
+returns-4 c = whole-got _ _ _ _ _ (c .before .before .before .run-at .ensures .0) (c .before .before .stands .ensures) (c .before .if1 .left) (c .if3 .left)
 
 pub magnitude-spec : {M : Type 1} → statement M
 magnitude-spec =
@@ -39,6 +39,8 @@ magnitude-spec =
     (λ c. search needs)
     returns
     (λ c. search needs)
+    (λ c. search needs)
     returns-2
     returns-3
+    (λ c. search needs)
     returns-4)

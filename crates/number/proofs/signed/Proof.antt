@@ -15,7 +15,7 @@ add-magnitude c =
 returns : tie.Need-returns
 returns c =
     let a = c .before .before .before .before .args in
-    signed-minus (a .s .now) (a .at) (c .before .before .stands .ensures) (c .before .if1 .taken) (c .magnitude .ensures)
+    signed-minus _ (a .s .now) (a .at) (c .before .before .stands .ensures) (c .before .if1 .taken) (c .magnitude .ensures)
 
 add-magnitude-2 : tie.Need-add-magnitude-2
 add-magnitude-2 c =
@@ -26,13 +26,13 @@ returns-2 : tie.Need-returns-2
 returns-2 c =
     let b = c .before .before .before in
     let a = b .before .before .before .args in
-    signed-plus (a .s .now) (a .at) (b .before .stands .ensures) (b .if1 .left) (c .before .before .stands2 .ensures) (c .before .if2 .taken) (c .magnitude2 .ensures)
+    signed-plus _ (a .s .now) (a .at) (b .before .stands .ensures) (b .if1 .left) (c .before .before .stands2 .ensures) (c .before .if2 .taken) (c .magnitude2 .ensures)
 
 returns-3 : tie.Need-returns-3
 returns-3 c =
     let b = c .before .before .before in
     let a = b .before .before .before .args in
-    signed-bare (a .s .now) (a .at) (b .before .stands .ensures) (b .if1 .left) (c .before .before .stands2 .ensures) (c .before .if2 .left) (c .unsigned .ensures)
+    signed-bare _ (a .s .now) (a .at) (b .before .stands .ensures) (b .if1 .left) (c .before .before .stands2 .ensures) (c .before .if2 .left) (c .unsigned .ensures)
 
 pub signed-spec : {M : Type 1} → statement M
 signed-spec =

@@ -2,13 +2,13 @@
 use mathlib.Core.Path.{sym}
 use native.Mathlib.Nat.{zero-add}
 use Rattle.xnc.specs.Door.{packed}
-use Rattle.xnc.proofs.Small.{line-small}
+use Rattle.xnc.proofs.Small.{refusal-small}
 use borrow.Author.Needs.{needs}
 use Rattle.xnc.proofs.pack.Statement.{statement}
 use Rattle.xnc.proofs.pack.Tie as tie
 
 pack-refusal-requires : tie.Need-pack-refusal-requires
-pack-refusal-requires c κs = line-small _ _ (c .before .answer2 .given .1) (c .before .before .before .pre)
+pack-refusal-requires c κs = refusal-small _ _ (c .before .answer2 .given .1) (c .before .before .before .pre)
 
 returns : tie.Need-returns
 unfolding packed
