@@ -2,7 +2,7 @@
 use mathlib.Core.Path.{_≡_, refl, sym, ap, ap₂, subst, _∙_}
 use mathlib.Core.Bool.{Bool, true, false, not, cond}
 use mathlib.Core.List.{List, [], _∷_}
-use Prim.Native.Nat.{ℕ, _+_, _-_, _^_, _<_, _≤_}
+use Prim.Native.Nat.{ℕ, _+_, _^_, _<_, _≤_}
 use Prim.Native.Char.{code}
 use native.Mathlib.Omega.{arith}
 use native.Mathlib.Numerals.{add-one}
@@ -12,7 +12,7 @@ use lib.Signed.{mag}
 use mir.Syntax.{w32}
 use mir.Val.{toZ, ofZ}
 use Rattle.points.proofs.Signed.{read-back}
-use lib.ListN.{length, drop, drop-of-length-le, length-drop}
+use lib.ListN.{length, drop, drop-of-length-le}
 use lib.Seq.{drop-cons, drop-drop}
 use Rattle.lists.specs.Words.{bytes, startsWith}
 use Rattle.lists.proofs.Words.{begins}
@@ -20,7 +20,7 @@ use Rattle.rules.specs.declared.LineAnswer.{LineAnswer}
 use Rattle.rules.specs.Refusals.{noSuchForm, outOfRange}
 use Rattle.rules.specs.Numbers.{Decimal, onNumber, signedOf, unsignedOf, isCoordinate, coordinateOf, isSize, millionths}
 use Rattle.rules.specs.Commands.{Form, Formed, is, no-form, atEnd, pointForm, arcForm, columnAfter, says, saysNo, inRange, meaningOf, onForm}
-use Rattle.rules.proofs.Columns.{TailOf, tail-length, tail-column, signed-tail}
+use Rattle.rules.proofs.Columns.{past-place, TailOf, signed-tail}
 use Rattle.number.specs.declared.Written.{Written}
 use Rattle.number.specs.declared.Number.{Number}
 use Rattle.number.specs.declared.Number.the-variants as W
@@ -92,10 +92,7 @@ module _ (s : List ℕ) (at : ℕ) where
   -- and behind a number
   column-past : (c d : ℕ) (w : Written) → code "9" < c → at ≤ length s → ReadsTo s d (signedOf (drop at s)) w
       → columnAfter at (drop at s) c ≡ columnAfter (w .next) (drop (w .next) s) c
-  column-past c d w h k r =
-      let t = subst (TailOf (drop at s)) (r .reading) (signed-tail (drop at s)) in
-      let e : at + (length (drop at s) - length (drop (w .next) s)) ≡ w .next = omega (arith, tail-length t, length-drop at s, length-drop (w .next) s, r .within) in
-      tail-column t at c h ∙ ap (λ (z : ℕ). columnAfter z (drop (w .next) s) c) e
+  column-past c d w h k r = past-place s at (w .next) c (subst (TailOf (drop at s)) (r .reading) (signed-tail (drop at s))) k (r .within) h
 
 -- ---- X, a number, Y, a number
 

@@ -6,7 +6,7 @@ use Prim.Native.Nat.{ℕ, _+_, _-_, _≤_}
 use Prim.Native.Char.{code}
 use native.Mathlib.Omega.{arith}
 use borrow.Author.Tests.{le-leb}
-use lib.ListN.{length, drop, length-drop}
+use lib.ListN.{length, drop}
 use lib.Seq.{drop-drop}
 use Rattle.lists.specs.Words.{bytes, startsWith}
 use Rattle.rules.specs.declared.Command.the-variants as K
@@ -16,7 +16,7 @@ use Rattle.rules.specs.Refusals.{noSuchForm, outOfRange}
 use Rattle.rules.specs.Numbers.{maxTool, digitsOf, NumberRead, got, no-number, onNumber, unsignedOf, isTool, isSize, millionths}
 use Rattle.rules.specs.Commands.{fewestDeclared, fewestSelected, toolDigits, declare, select, no-form, atEnd, toolForm, columnAfter, toolColumn, says, saysNo, inRange, meaningOf, onForm}
 use Rattle.rules.proofs.Revisions.{fit-digits}
-use Rattle.rules.proofs.Columns.{Tail, tail-length, tail-column, digits-tail}
+use Rattle.rules.proofs.Columns.{Tail, past-place, digits-tail}
 use Rattle.number.specs.declared.Run.{Run}
 use Rattle.number.specs.declared.Written.{Written}
 use Rattle.number.specs.declared.Number.{Number}
@@ -98,9 +98,7 @@ module _ (rev : Revision) (s : List ℕ) {t : Run} (e : t ≡ heldRun 1 0 (digit
     declared-column =
         let near = stands-within s (t .next) (code "C") ec h in
         let tail = subst (λ (l : List ℕ). Tail l (drop 1 s)) (run-rest s 1 0 e) (digits-tail (drop 1 s)) in
-        let place : 1 + (length (drop 1 s) - length (drop (t .next) s)) ≡ t .next = omega (arith, length-drop 1 s, length-drop (t .next) s, tail-length tail) in
-        tail-column tail 1 (code "C") (omega arith)
-        ∙ ap (λ (k : ℕ). columnAfter k (drop (t .next) s) (code "C")) place
+        past-place s 1 (t .next) (code "C") tail (omega arith) (omega arith) (omega arith)
         ∙ column-here s (t .next) (code "C") (sym ec ∙ h) ∙ omega arith
 
     pub declare-count : toolDigits f (t .next - 1) ≡ false → saysNo noSuchForm ≡ onForm (columnAfter 1 (drop 1 s)) (toolForm rev (drop 1 s))

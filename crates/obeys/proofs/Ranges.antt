@@ -2,7 +2,7 @@
 use mathlib.Core.Path.{_≡_, refl, sym, ap, _∙_, subst}
 use mathlib.Core.Bool.{Bool, true, false, _&&_, false≢true}
 use mathlib.Core.List.{List, [], _++_, append-assoc, append-nil}
-use Prim.Native.Nat.{ℕ, suc, _+_, _-_, _<_, _≤_}
+use Prim.Native.Nat.{ℕ, suc, _+_, _<_, _≤_}
 use Prim.Native.Char.{code}
 use native.Mathlib.Omega.{arith}
 use borrow.Author.Tests.{le-leb, leb-true}
@@ -18,7 +18,7 @@ use Rattle.rules.specs.Numbers.{maxNumber, maxTool, maxPlaces, isDigit, DigitRu
 use Rattle.rules.specs.Commands.{Form, declare, saysNo, columnAfter, inRange, pointInRange, arcInRange, meaningOf}
 use Rattle.rules.specs.Spelling.{Digits, digit, Magnitude, whole, point, Unsigned, plain, Signed, bare, plus, minus, SpellsPoint, xy, SpellsArc, xya, tc, Spells, select-is, Coordinate, coordinate, Size, size, Tool}
 use Rattle.rules.specs.Spelling as S
-use Rattle.rules.proofs.Columns.{Tail, tail-column, digits-tail, TailOf, signed-tail}
+use Rattle.rules.proofs.Columns.{Tail, past-bytes, digits-tail, TailOf, signed-tail}
 use Rattle.laws.proofs.Digits.{NoDigit, NoPoint}
 use Rattle.obeys.specs.Faults.{NoCoordinate, NoSize, PointOut, x-out, y-out, ArcOut, point-out, radius-out, OutAt, declared-tool-out, diameter-out, selected-tool-out, g00-out, hit-out, g01-out, g02-out, g03-out}
 use Rattle.obeys.proofs.Numbers.{digits-read, signed-read}
@@ -68,30 +68,34 @@ no-size d n = fails (isSize d) (read-size d) (n (millionths d))
 no-tool : (t : ℕ) → (Tool t → ⊥) → isTool t ≡ false
 no-tool t n = fails (isTool t) (read-tool t) n
 
-false-true : {t : Bool} → t ≡ false → t ≡ true → ⊥
-false-true e f = false≢true (sym e ∙ f)
+not-coordinate : {d : Decimal} → isCoordinate d ≡ false → NoCoordinate d
+not-coordinate e v w = false≢true (sym e ∙ coordinate-read w .0)
+
+not-size : {d : Decimal} → isSize d ≡ false → NoSize d
+not-size e n w = false≢true (sym e ∙ size-read w .0)
+
+not-tool : {t : ℕ} → isTool t ≡ false → Tool t → ⊥
+not-tool e w = false≢true (sym e ∙ tool-read w)
 
 -- ---- the columns behind letters
 
 -- behind the bytes of a number
 signed-past : {a : List ℕ} {x : Decimal} → Signed a x → (k c : ℕ) → code "9" < c → (rest : List ℕ) → NoDigit rest → NoPoint rest
     → columnAfter k (a ++ rest) c ≡ columnAfter (k + length a) rest c
-signed-past {a} v k c h rest p q =
-    let t = subst (TailOf (a ++ rest)) (signed-read v rest p q) (signed-tail (a ++ rest)) in
-    let e : k + (length (a ++ rest) - length rest) ≡ k + length a = omega (arith, length-append a rest) in
-    tail-column t k c h ∙ ap (λ (z : ℕ). columnAfter z rest c) e
+signed-past {a} v k c h rest p q = past-bytes a (subst (TailOf (a ++ rest)) (signed-read v rest p q) (signed-tail (a ++ rest))) k c h
 
 digits-past : {a : List ℕ} {j n : ℕ} → Digits a j n → (k c : ℕ) → code "9" < c → (rest : List ℕ) → NoDigit rest
     → columnAfter k (a ++ rest) c ≡ columnAfter (k + length a) rest c
-digits-past {a} v k c h rest p =
-    let t = subst (λ (r : DigitRun). Tail (r .rest) (a ++ rest)) (digits-read v rest p) (digits-tail (a ++ rest)) in
-    let e : k + (length (a ++ rest) - length rest) ≡ k + length a = omega (arith, length-append a rest) in
-    tail-column t k c h ∙ ap (λ (z : ℕ). columnAfter z rest c) e
+digits-past {a} v k c h rest p = past-bytes a (subst (λ (r : DigitRun). Tail (r .rest) (a ++ rest)) (digits-read v rest p) (digits-tail (a ++ rest))) k c h
 
-y-column : {a : List ℕ} {x : Decimal} → Signed a x → (k : ℕ) (b : List ℕ)
-    → k + length (bytes "X" ++ (a ++ bytes "Y")) + 1 ≡ columnAfter k (bytes "X" ++ (a ++ (bytes "Y" ++ b))) (code "Y")
+-- whatever follows the point
+y-column : {a : List ℕ} {x : Decimal} → Signed a x → (k : ℕ) (b rest : List ℕ)
+    → k + length (bytes "X" ++ (a ++ bytes "Y")) + 1 ≡ columnAfter k ((bytes "X" ++ (a ++ (bytes "Y" ++ b))) ++ rest) (code "Y")
 unfolding columnAfter startsWith isDigit
-y-column {a} v k b = omega (arith, length-append a (bytes "Y")) ∙ sym (signed-past v (suc k) (code "Y") (omega arith) (bytes "Y" ++ b) refl refl)
+y-column {a} v k b rest =
+    omega (arith, length-append a (bytes "Y"))
+    ∙ sym (ap (λ (z : List ℕ). columnAfter (suc k) z (code "Y")) (append-assoc a (bytes "Y" ++ b) rest)
+    ∙ signed-past v (suc k) (code "Y") (omega arith) (bytes "Y" ++ (b ++ rest)) refl refl)
 
 radius-column : {a : List ℕ} {x y : Decimal} → SpellsPoint a x y → (k : ℕ) (b : List ℕ)
     → k + length (a ++ bytes "A") + 1 ≡ columnAfter k (a ++ (bytes "A" ++ b)) (code "A")
@@ -115,21 +119,20 @@ module _ (P : LineAnswer → Type 0) where
   range-all true c a f g = f refl
   range-all false c a f g = g refl
 
-  -- in a column that is told otherwise
-  in-column : {c d : ℕ} → c ≡ d → P (saysNo (outOfRange c)) → P (saysNo (outOfRange d))
-  in-column e p = subst (λ (z : ℕ). P (saysNo (outOfRange z))) e p
+  -- its column told otherwise
+  moved-to : {c d : ℕ} → c ≡ d → P (saysNo (outOfRange c)) → P (saysNo (outOfRange d))
+  moved-to e p = subst (λ (z : ℕ). P (saysNo (outOfRange z))) e p
 
   -- a point's bytes, before which k others stand, and then the rest of the line
   point-ranges : {b : List ℕ} {x y : Decimal} → SpellsPoint b x y → (k : ℕ) (rest : List ℕ) (a : LineAnswer)
       → (Coordinate x (coordinateOf x) → Coordinate y (coordinateOf y) → P a) → ((c : ℕ) → PointOut k b x y c → P (saysNo (outOfRange c)))
       → P (pointInRange (columnAfter k (b ++ rest)) x y a)
   unfolding columnAfter
-  point-ranges (xy {a = u} {b = v} {x = x} {y = y} p q) k rest a f g =
+  point-ranges (xy {b = v} {x = x} {y = y} p q) k rest a f g =
       range-all (isCoordinate x) _ _
       (λ s. range-all (isCoordinate y) _ _ (λ t. f (read-coordinate x s) (read-coordinate y t))
-      (λ t. in-column (y-column p k (v ++ rest) ∙ ap (λ (z : List ℕ). columnAfter (suc k) z (code "Y")) (sym (append-assoc u (bytes "Y" ++ v) rest)))
-      (g _ (y-out p q (read-coordinate x s) (λ n w. false-true t (coordinate-read w .0))))))
-      (λ s. in-column (omega arith) (g _ (x-out p q (λ n w. false-true s (coordinate-read w .0)))))
+      (λ t. moved-to (y-column p k v rest) (g _ (y-out p q (read-coordinate x s) (not-coordinate t)))))
+      (λ s. moved-to (omega arith) (g _ (x-out p q (not-coordinate s))))
 
   pub point-all : {b : List ℕ} {x y : Decimal} → SpellsPoint b x y → (k : ℕ) (a : LineAnswer)
       → (Coordinate x (coordinateOf x) → Coordinate y (coordinateOf y) → P a) → ((c : ℕ) → PointOut k b x y c → P (saysNo (outOfRange c)))
@@ -142,18 +145,18 @@ module _ (P : LineAnswer → Type 0) where
   arc-all (xya {b = b} {r = r} w v) k a f g =
       point-ranges w k (bytes "A" ++ b) _
       (λ p q. range-all (isSize r) _ _ (λ s. f p q (read-size r s))
-      (λ s. in-column (radius-column w k b) (g _ (radius-out w v p q (λ n z. false-true s (size-read z .0))))))
+      (λ s. moved-to (radius-column w k b) (g _ (radius-out w v p q (not-size s)))))
       (λ c o. g c (point-out o v))
 
   pub tool-all : (t : ℕ) (c : ℕ) (a : LineAnswer) → (Tool t → P a) → ((Tool t → ⊥) → P (saysNo (outOfRange c))) → P (inRange (isTool t) c a)
-  tool-all t c a f g = range-all (isTool t) c a (λ s. f (read-tool t s)) (λ s. g (λ w. false-true s (tool-read w)))
+  tool-all t c a f g = range-all (isTool t) c a (λ s. f (read-tool t s)) (λ s. g (not-tool s))
 
   pub diameter-all : {a b : List ℕ} {j t : ℕ} {d : Decimal} → Digits a j t → Unsigned b d → Tool t → (z : LineAnswer) → (Size d (millionths d) → P z)
       → ((c : ℕ) → OutAt (bytes "T" ++ (a ++ (bytes "C" ++ b))) (declare t d) c → P (saysNo (outOfRange c)))
       → P (inRange (isSize d) (columnAfter 0 (bytes "T" ++ (a ++ (bytes "C" ++ b))) (code "C")) z)
   diameter-all {b = b} {d = d} v u w z f g =
       range-all (isSize d) _ _ (λ s. f (read-size d s))
-      (λ s. in-column (diameter-column v b) (g _ (diameter-out v u w (λ n y. false-true s (size-read y .0)))))
+      (λ s. moved-to (diameter-column v b) (g _ (diameter-out v u w (not-size s))))
 
 -- ---- the other way
 
@@ -161,10 +164,8 @@ point-refused : {k : ℕ} {b : List ℕ} {x y : Decimal} {c : ℕ} → PointOut 
     → pointInRange (columnAfter k (b ++ rest)) x y a ≡ saysNo (outOfRange c)
 unfolding columnAfter inRange
 point-refused {k} (x-out {x = x} p q n) rest a = rw (no-coordinate x n) (ap (λ (z : ℕ). saysNo (outOfRange z)) (omega arith))
-point-refused {k} (y-out {a = u} {b = v} {x = x} {y = y} p q s n) rest a =
-    rw (coordinate-read s .0, no-coordinate y n)
-    (ap (λ (z : ℕ). saysNo (outOfRange z))
-    (sym (y-column p k (v ++ rest) ∙ ap (λ (z : List ℕ). columnAfter (suc k) z (code "Y")) (sym (append-assoc u (bytes "Y" ++ v) rest)))))
+point-refused {k} (y-out {b = v} {x = x} {y = y} p q s n) rest a =
+    rw (coordinate-read s .0, no-coordinate y n) (ap (λ (z : ℕ). saysNo (outOfRange z)) (sym (y-column p k v rest)))
 
 point-end-refused : {k : ℕ} {b : List ℕ} {x y : Decimal} {c : ℕ} → PointOut k b x y c → (a : LineAnswer)
     → pointInRange (columnAfter k b) x y a ≡ saysNo (outOfRange c)

@@ -2,13 +2,13 @@
 -- below the letters: a letter behind a number is found as if the number were not there.
 use mathlib.Core.Path.{_≡_, refl, ap, _∙_}
 use mathlib.Core.Bool.{Bool, true, false}
-use mathlib.Core.List.{List, [], _∷_}
+use mathlib.Core.List.{List, [], _∷_, _++_}
 use Prim.Native.Nat.{ℕ, zero, suc, _+_, _-_, _<_, _≤_}
 use Prim.Native.Char.{code}
 use native.Mathlib.Omega.{arith}
 use borrow.Author.Tests.{leb-true, ne-eqb}
 use lib.Dec.{leb, eqb}
-use lib.ListN.{length, drop, length-drop}
+use lib.ListN.{length, drop, length-append, length-drop}
 use Rattle.lists.specs.Words.{bytes, startsWith}
 use Rattle.lists.proofs.Choice.{cond-all, both}
 use Rattle.lists.proofs.Words.{begins}
@@ -25,7 +25,7 @@ tail-tail : {a b c : List ℕ} → Tail a b → Tail b c → Tail a c
 tail-tail p same = p
 tail-tail p (later h q) = later h (tail-tail p q)
 
-pub tail-length : {rest l : List ℕ} → Tail rest l → length rest ≤ length l
+tail-length : {rest l : List ℕ} → Tail rest l → length rest ≤ length l
 tail-length {l = l} same = omega arith
 tail-length (later h p) = omega (arith, tail-length p)
 
@@ -46,12 +46,24 @@ tail-at at s t = go at s t
     go {rest} (suc at) (b ∷ s) t = later-drop b rest s (omega (arith, tail-length t, length-drop at s)) (go at s t)
 
 -- the column of a letter behind them
-pub tail-column : {rest l : List ℕ} → Tail rest l → (k c : ℕ) → code "9" < c → columnAfter k l c ≡ columnAfter (k + (length l - length rest)) rest c
+tail-column : {rest l : List ℕ} → Tail rest l → (k c : ℕ) → code "9" < c → columnAfter k l c ≡ columnAfter (k + (length l - length rest)) rest c
 unfolding columnAfter
 tail-column {l = l} same k c h = let e : k + (length l - length l) ≡ k = omega arith in rw e
 tail-column (later {b = b} {rest = rest} {l = l} p t) k c h =
     let e : suc k + (length l - length rest) ≡ k + (suc (length l) - length rest) = omega (arith, tail-length t) in
     rw (ne-eqb b c (omega arith)) (tail-column t (suc k) c h ∙ ap (λ (z : ℕ). columnAfter z rest c) e)
+
+-- the same of bytes that are named, and of places in a line
+pub past-bytes : (a : List ℕ) {rest : List ℕ} → Tail rest (a ++ rest) → (k c : ℕ) → code "9" < c → columnAfter k (a ++ rest) c ≡ columnAfter (k + length a) rest c
+past-bytes a {rest} t k c h =
+    let e : k + (length (a ++ rest) - length rest) ≡ k + length a = omega (arith, length-append a rest) in
+    tail-column t k c h ∙ ap (λ (z : ℕ). columnAfter z rest c) e
+
+pub past-place : (s : List ℕ) (at next c : ℕ) → Tail (drop next s) (drop at s) → at ≤ length s → next ≤ length s → code "9" < c
+    → columnAfter at (drop at s) c ≡ columnAfter next (drop next s) c
+past-place s at next c t p q h =
+    let e : at + (length (drop at s) - length (drop next s)) ≡ next = omega (arith, tail-length t, length-drop at s, length-drop next s) in
+    tail-column t at c h ∙ ap (λ (z : ℕ). columnAfter z (drop next s) c) e
 
 -- ---- numbers
 
