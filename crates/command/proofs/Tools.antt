@@ -5,7 +5,6 @@ use mathlib.Core.List.{List, [], _∷_}
 use Prim.Native.Nat.{ℕ, _+_, _-_, _≤_}
 use Prim.Native.Char.{code}
 use native.Mathlib.Omega.{arith}
-use borrow.Author.Tests.{le-leb}
 use lib.ListN.{length, drop}
 use lib.Seq.{drop-drop}
 use Rattle.lists.specs.Words.{bytes, startsWith}
@@ -16,6 +15,7 @@ use Rattle.rules.specs.Refusals.{noSuchForm, outOfRange}
 use Rattle.rules.specs.Numbers.{maxTool, digitsOf, NumberRead, got, no-number, onNumber, unsignedOf, isTool, isSize, millionths}
 use Rattle.rules.specs.Commands.{fewestDeclared, fewestSelected, toolDigits, declare, select, no-form, atEnd, toolForm, columnAfter, toolColumn, says, saysNo, inRange, meaningOf, onForm}
 use Rattle.rules.proofs.Revisions.{fit-digits}
+use Rattle.rules.proofs.Ranges.{tool-passes}
 use Rattle.rules.proofs.Columns.{Tail, past-place, digits-tail}
 use Rattle.number.specs.declared.Run.{Run}
 use Rattle.number.specs.declared.Written.{Written}
@@ -29,8 +29,7 @@ use Rattle.command.specs.Parts.{declareAt}
 use Rattle.command.proofs.Points.{ended-is, ended-no, size-none, size-read, size-goes-on, size-ends, size-same, column-here}
 
 is-tool : (t : ℕ) → (t ≡ 0 → ⊥) → t ≤ maxTool → isTool t ≡ true
-unfolding isTool
-is-tool t h k = rw (le-leb 1 t (omega arith), le-leb t maxTool k)
+is-tool t h k = tool-passes t (omega arith) k
 
 no-tool : (t : ℕ) → t ≡ 0 → isTool t ≡ false
 unfolding isTool

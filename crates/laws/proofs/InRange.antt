@@ -1,15 +1,14 @@
 -- A line that says a command says one whose numbers are in range (where it is refused the command is a comment), and a
 -- step keeps the ranges of a state: so rows that lines read as are in range.
 use mathlib.Core.Path.{_≡_, refl, subst}
-use mathlib.Core.Bool.{Bool, true, false, _&&_, cond}
+use mathlib.Core.Bool.{Bool, true, false, cond}
 use mathlib.Core.List.{List, [], _∷_, _++_}
 use Prim.Native.Nat.{ℕ, zero, suc, _+_, _≤_}
 use native.Mathlib.Omega.{arith}
-use borrow.Author.Tests.{leb-true}
 use lib.Dec.{leb, eqb}
 use lib.IntN.{pos, negℤ, natAbs}
 use lib.ListN.{length, getD, take, drop}
-use Rattle.lists.proofs.Choice.{cond-all, both}
+use Rattle.lists.proofs.Choice.{cond-all}
 use Rattle.runs.specs.Machine.{yields, stops, lastOf, nil, link}
 use Rattle.runs.proofs.Append.{Reads}
 use Rattle.runs.proofs.Meeting.{Redone, past, met, on}
@@ -18,12 +17,13 @@ use Rattle.rules.specs.declared.Command.{Command}
 use Rattle.rules.specs.declared.Command.the-variants as K
 use Rattle.rules.specs.declared.LineAnswer.{LineAnswer}
 use Rattle.rules.specs.declared.Revision.{Revision}
-use Rattle.rules.specs.Numbers.{maxLine, maxNumber, maxTool, maxPlaces, maxLines, Decimal, withSign, millionths, isCoordinate, coordinateOf, isSize, isTool}
+use Rattle.rules.specs.Numbers.{maxLine, maxNumber, maxTool, maxLines, Decimal, withSign, millionths, isCoordinate, coordinateOf, isSize, isTool}
 use Rattle.rules.specs.Lines.{Line, textOf, isPrintable}
 use Rattle.rules.specs.Commands.{Form, comment, m48, metric, inch, declare, percent, g05, g00, select, hit, m15, m16, g01, g02, g03, m30, Formed, is, no-form, formOf, columnAfter, says, pointOf, inRange, pointInRange, arcInRange, meaningOf, onForm, commandOf, lineOf}
 use Rattle.rules.specs.State.{taken, hasEnded}
 use Rattle.rules.specs.Reading.{sayOut, answerIn, commandIn, Rows, noRow}
 use Rattle.rules.specs.Ranges.{PointOk, NumberOk, ArcOk, StateOk, CommandOk}
+use Rattle.rules.proofs.Ranges.{coordinate-says, size-says, tool-says}
 use Rattle.laws.proofs.Keeps.{taken-ok}
 
 nat-of-minus : (n : ℕ) → natAbs (negℤ (pos n)) ≡ n
@@ -35,20 +35,14 @@ sign-same true n = nat-of-minus n
 sign-same false n = refl
 
 coordinate-ok : (d : Decimal) → isCoordinate d ≡ true → natAbs (coordinateOf d) ≤ maxNumber
-unfolding isCoordinate coordinateOf
-coordinate-ok d e =
-    rw (sign-same (d .negative) (millionths d)) (leb-true (millionths d) maxNumber (both (leb (d .places) maxPlaces) (leb (millionths d) maxNumber) e .1))
+unfolding coordinateOf
+coordinate-ok d e = rw (sign-same (d .negative) (millionths d)) (coordinate-says d e .1)
 
 size-ok : (d : Decimal) → isSize d ≡ true → NumberOk 1 maxNumber (millionths d)
-unfolding isSize
-size-ok d e =
-    let h = both (leb (d .places) maxPlaces) (leb 1 (millionths d) && leb (millionths d) maxNumber) e in
-    let k = both (leb 1 (millionths d)) (leb (millionths d) maxNumber) (h .1) in
-    record { low = leb-true 1 (millionths d) (k .0); high = leb-true (millionths d) maxNumber (k .1) }
+size-ok d e = let h = size-says d e in record { low = h .1; high = h .2 }
 
 tool-ok : (t : ℕ) → isTool t ≡ true → NumberOk 1 maxTool t
-unfolding isTool
-tool-ok t e = let h = both (leb 1 t) (leb t maxTool) e in record { low = leb-true 1 t (h .0); high = leb-true t maxTool (h .1) }
+tool-ok t e = let h = tool-says t e in record { low = h .0; high = h .1 }
 
 in-range : (t : Bool) (k : ℕ) (a : LineAnswer) → (t ≡ true → CommandOk (a .command)) → CommandOk (inRange t k a .command)
 unfolding inRange

@@ -1,23 +1,21 @@
 -- Numbers in range, and the leftmost that is not: it stands in the column that is answered.
 use mathlib.Core.Path.{_≡_, refl, sym, ap, _∙_, subst}
-use mathlib.Core.Bool.{Bool, true, false, _&&_, false≢true}
+use mathlib.Core.Bool.{Bool, true, false, false≢true}
 use mathlib.Core.List.{List, [], _++_, append-assoc, append-nil}
 use Prim.Native.Nat.{ℕ, suc, _+_, _<_, _≤_}
 use Prim.Native.Char.{code}
 use native.Mathlib.Omega.{arith}
-use borrow.Author.Tests.{le-leb, leb-true}
-use lib.Dec.{leb}
 use lib.ListN.{length, length-append}
 use lib.IntN.{ℤ}
 use Rattle.lists.specs.Words.{bytes, startsWith}
-use Rattle.lists.proofs.Choice.{both}
 use Rattle.rules.specs.declared.LineAnswer.{LineAnswer}
 use Rattle.rules.specs.declared.Revision.{Revision}
 use Rattle.rules.specs.Refusals.{outOfRange}
-use Rattle.rules.specs.Numbers.{maxNumber, maxTool, maxPlaces, isDigit, DigitRun, Decimal, millionths, isCoordinate, coordinateOf, isSize, isTool}
+use Rattle.rules.specs.Numbers.{isDigit, DigitRun, Decimal, millionths, isCoordinate, coordinateOf, isSize, isTool}
 use Rattle.rules.specs.Commands.{Form, declare, saysNo, columnAfter, inRange, pointInRange, arcInRange, meaningOf}
 use Rattle.rules.specs.Spelling.{Digits, digit, Magnitude, whole, point, Unsigned, plain, Signed, bare, plus, minus, SpellsPoint, xy, SpellsArc, xya, tc, Spells, select-is, Coordinate, coordinate, Size, size, Tool}
 use Rattle.rules.specs.Spelling as S
+use Rattle.rules.proofs.Ranges.{coordinate-says, coordinate-passes, size-says, size-passes, tool-says, tool-passes}
 use Rattle.rules.proofs.Columns.{Tail, past-bytes, digits-tail, TailOf, signed-tail}
 use Rattle.laws.proofs.Digits.{NoDigit, NoPoint}
 use Rattle.obeys.specs.Faults.{NoCoordinate, NoSize, PointOut, x-out, y-out, ArcOut, point-out, radius-out, OutAt, declared-tool-out, diameter-out, selected-tool-out, g00-out, hit-out, g01-out, g02-out, g03-out}
@@ -26,33 +24,24 @@ use Rattle.obeys.proofs.Numbers.{digits-read, signed-read}
 -- ---- ranges
 
 pub coordinate-read : {d : Decimal} {v : ℤ} → Coordinate d v → (isCoordinate d ≡ true) × (coordinateOf d ≡ v)
-unfolding isCoordinate coordinateOf
-coordinate-read (coordinate {d = d} p q) = (rw (le-leb (d .places) maxPlaces p, le-leb (millionths d) maxNumber q), refl)
+unfolding coordinateOf
+coordinate-read (coordinate {d = d} p q) = (coordinate-passes d p q, refl)
 
 pub read-coordinate : (d : Decimal) → isCoordinate d ≡ true → Coordinate d (coordinateOf d)
-unfolding isCoordinate coordinateOf
-read-coordinate d e =
-    let h = both (leb (d .places) maxPlaces) (leb (millionths d) maxNumber) e in
-    coordinate {d = d} (leb-true (d .places) maxPlaces (h .0)) (leb-true (millionths d) maxNumber (h .1))
+unfolding coordinateOf
+read-coordinate d e = let h = coordinate-says d e in coordinate {d = d} (h .0) (h .1)
 
 pub size-read : {d : Decimal} {n : ℕ} → Size d n → (isSize d ≡ true) × (millionths d ≡ n)
-unfolding isSize
-size-read (size {d = d} p o q) = (rw (le-leb (d .places) maxPlaces p, le-leb 1 (millionths d) o, le-leb (millionths d) maxNumber q), refl)
+size-read (size {d = d} p o q) = (size-passes d p o q, refl)
 
 pub read-size : (d : Decimal) → isSize d ≡ true → Size d (millionths d)
-unfolding isSize
-read-size d e =
-    let h = both (leb (d .places) maxPlaces) (leb 1 (millionths d) && leb (millionths d) maxNumber) e in
-    let g = both (leb 1 (millionths d)) (leb (millionths d) maxNumber) (h .1) in
-    size {d = d} (leb-true (d .places) maxPlaces (h .0)) (leb-true 1 (millionths d) (g .0)) (leb-true (millionths d) maxNumber (g .1))
+read-size d e = let h = size-says d e in size {d = d} (h .0) (h .1) (h .2)
 
 pub tool-read : {t : ℕ} → Tool t → isTool t ≡ true
-unfolding isTool
-tool-read {t} w = rw (le-leb 1 t (w .low), le-leb t maxTool (w .high))
+tool-read {t} w = tool-passes t (w .low) (w .high)
 
 pub read-tool : (t : ℕ) → isTool t ≡ true → Tool t
-unfolding isTool
-read-tool t e = let h = both (leb 1 t) (leb t maxTool) e in record { low = leb-true 1 t (h .0); high = leb-true t maxTool (h .1) }
+read-tool t e = let h = tool-says t e in record { low = h .0; high = h .1 }
 
 -- a test that can't be passed isn't
 fails : {P : Type 0} (t : Bool) → (t ≡ true → P) → (P → ⊥) → t ≡ false

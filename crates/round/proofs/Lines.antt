@@ -26,9 +26,10 @@ use Rattle.rules.specs.Reading.{answerIn, commandIn}
 use Rattle.rules.specs.Writing.{lastDigits, widthOf, placesOf, fractionText, numberText, coordinateText, toolText, pointText, arcText, spelt, lineText, longestLine}
 use Rattle.rules.specs.Ranges.{PointOk, ArcOk, CommandOk}
 use Rattle.rules.proofs.Revisions.{two-digits}
+use Rattle.rules.proofs.Ranges.{tool-passes}
 use Rattle.laws.proofs.Digits.{NoDigit, NoPoint}
 use Rattle.laws.proofs.Lines.{printable-without, no-cr, text-plain, endedLine, lf-line}
-use Rattle.round.proofs.Numbers.{tool-back, width-is, places-is, written, written-millionths, number-back, writtenCoordinate, coordinate-back, written-coordinate, written-is, written-size, tool-in-range}
+use Rattle.round.proofs.Numbers.{tool-back, width-is, places-is, written, written-millionths, number-back, writtenCoordinate, coordinate-back, written-coordinate, written-is, written-size}
 
 -- ---- at most n bytes, all printable
 
@@ -164,14 +165,14 @@ declare-back rev t d h =
       tool-back t (bytes "C" ++ numberText d) (h .0 .high) refl,
       two-digits rev,
       number-end d (h .1 .high),
-      tool-in-range t (h .0 .low) (h .0 .high),
+      tool-passes t (h .0 .low) (h .0 .high),
       written-size d (h .1 .low) (h .1 .high),
       written-millionths d false,
     )
 
 select-back : (rev : Revision) (t : ℕ) → CommandOk (Select t) → commandOf rev (spelt (Select t)) ≡ says (Select t)
 unfolding commandOf formOf spelt toolForm startsWith meaningOf inRange
-select-back rev t h = rw (tool-end t (h .high), tool-in-range t (h .low) (h .high))
+select-back rev t h = rw (tool-end t (h .high), tool-passes t (h .low) (h .high))
 
 command-back : (rev : Revision) (c : Command) → CommandOk c → commandOf rev (spelt c) ≡ says c
 unfolding commandOf formOf spelt startsWith meaningOf noSemicolon commentForm pointText

@@ -14,7 +14,8 @@ use lib.IntN.{ℤ, pos, negsuc, natAbs}
 use lib.Pow.{pow-add}
 use Rattle.lists.specs.Words.{startsWith}
 use Rattle.lists.proofs.Choice.{cond-all}
-use Rattle.rules.specs.Numbers.{maxNumber, maxTool, maxPlaces, isDigit, digitsOf, Decimal, got, magnitudeOf, unsignedOf, signedOf, millionths, isCoordinate, coordinateOf, isSize, isTool}
+use Rattle.rules.specs.Numbers.{maxNumber, maxTool, maxPlaces, isDigit, digitsOf, Decimal, got, magnitudeOf, unsignedOf, signedOf, millionths, isCoordinate, coordinateOf, isSize}
+use Rattle.rules.proofs.Ranges.{coordinate-passes, size-passes}
 use Rattle.laws.proofs.Digits.{NoDigit, NoPoint, no-digits}
 use Rattle.rules.specs.Writing.{lastDigits, widthOf, placesOf, fractionText, numberText, coordinateText, toolText}
 
@@ -192,8 +193,7 @@ coordinate-back (negsuc v) rest h e p = magnitude-back true (suc v) rest h e p
 -- ---- ranges
 
 in-range : (neg : Bool) (v : ℕ) → v ≤ maxNumber → isCoordinate (written neg v) ≡ true
-unfolding isCoordinate
-in-range neg v h = rw (le-leb (placesIn v) maxPlaces (written-places v neg), written-millionths v neg, le-leb v maxNumber h)
+in-range neg v h = coordinate-passes (written neg v) (written-places v neg) (omega (arith, written-millionths v neg))
 
 pub written-coordinate : (x : ℤ) → natAbs x ≤ maxNumber → isCoordinate (writtenCoordinate x) ≡ true
 written-coordinate (pos v) h = in-range false v h
@@ -205,9 +205,5 @@ written-is (pos v) = ap pos (written-millionths v false)
 written-is (negsuc v) = rw (written-millionths (suc v) true)
 
 pub written-size : (v : ℕ) → 1 ≤ v → v ≤ maxNumber → isSize (written false v) ≡ true
-unfolding isSize
-written-size v g h = rw (le-leb (placesIn v) maxPlaces (written-places v false), written-millionths v false, le-leb 1 v g, le-leb v maxNumber h)
-
-pub tool-in-range : (t : ℕ) → 1 ≤ t → t ≤ maxTool → isTool t ≡ true
-unfolding isTool
-tool-in-range t g h = rw (le-leb 1 t g, le-leb t maxTool h)
+written-size v g h =
+    size-passes (written false v) (written-places v false) (omega (arith, written-millionths v false)) (omega (arith, written-millionths v false))

@@ -3,3 +3,4 @@ pub mod Said
 pub mod Tests
 pub mod Revisions
 pub mod Columns
+pub mod Ranges
