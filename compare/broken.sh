@@ -3,12 +3,12 @@
 # copy of plain Rust, which is then compared with the true one. The comparison
 # must fail on every copy (and pass on the unchanged one).
 #
-#   compare/broken.sh [COUNT]      comparisons for each copy, 100000 unless given;
+#   compare/broken.sh [COUNT]      comparisons for each copy, 150000 unless given;
 #                                  0 only looks whether each mistake still has its place (the gate does)
 set -euo pipefail
 
 here=$(cd "$(dirname "$0")" && pwd)
-count=${1:-100000}
+count=${1:-150000}
 out=$(mktemp -d)
 trap 'rm -rf "$out"' EXIT
 
@@ -23,14 +23,20 @@ mod tests;"/}
 broken=0
 missed=0
 
-# mistake NAME OLD NEW: the first OLD in the source becomes NEW.
+# mistake NAME OLD NEW [OLD NEW ...]: the first of each OLD in the source becomes its NEW.
 mistake() {
-    local changed=${source/"$2"/"$3"}
-    if [ "$changed" = "$source" ]; then
-        echo "no such text: $1"
-        missed=$((missed + 1))
-        return
-    fi
+    local name=$1 changed=$source before
+    shift
+    while [ $# -gt 0 ]; do
+        before=$changed
+        changed=${changed/"$1"/"$2"}
+        if [ "$changed" = "$before" ]; then
+            echo "no such text: $name"
+            missed=$((missed + 1))
+            return
+        fi
+        shift 2
+    done
     broken=$((broken + 1))
     [ "$count" != 0 ] || return 0
     printf '%s\n' "$changed" >"$out/lib.rs"
@@ -39,10 +45,10 @@ mistake() {
     "${RUSTC:-rustc}" --edition 2021 -C opt-level=1 --cfg selftest --crate-name compare "$here/src/main.rs" \
         --extern "plain=$out/libplain.rlib" --extern "subject=$out/libsubject.rlib" -o "$out/compare"
     if "$out/compare" "$count" >"$out/said" || ! tail -n 1 "$out/said" | grep -q 'compared, [1-9]'; then
-        echo "MISSED: $1"
+        echo "MISSED: $name"
         missed=$((missed + 1))
     else
-        printf '%-58s %s\n' "$1" "$(tail -n 1 "$out/said")"
+        printf '%-58s %s\n' "$name" "$(tail -n 1 "$out/said")"
     fi
 }
 
@@ -50,11 +56,12 @@ mistake() {
 mistake 'whole part capped too low' '.min(1_000)' '.min(999)'
 mistake 'whole part wraps' 'value = (value * 10 + u32::from(digit - b'\''0'\'')).min(1_000);' \
     'value = value.wrapping_mul(10).wrapping_add(u32::from(digit - b'\''0'\'')) & 0xFFF_FFFF;'
-mistake 'seventh decimal dropped' 'match SCALE.get(decimals)' 'match SCALE.get(decimals.min(6))'
-mistake 'largest number refused' 'value * scale <= MAX as u32' 'value * scale < MAX as u32'
+mistake 'seventh decimal dropped' 'let number = match PLACES.get(decimals)' \
+    'let decimals = decimals.min(6); let number = match PLACES.get(decimals)'
+mistake 'largest number refused' 'value * place <= MAX as u32' 'value * place < MAX as u32'
 mistake 'a point without digits' 'if digits == 0 {' 'if digits == 0 && rest.len() == text.len() {'
-mistake 'sign of -0.5 lost' 'size.map(|size| -size)' 'size.map(|size| if size < 1_000_000 { size } else { -size })'
-mistake 'plus sign refused' "[b'+', rest @ ..] => magnitude(rest)" "[b'+', ..] => None"
+mistake 'sign of -0.5 lost' 'if negative {' 'if negative && size.millionths >= 1_000_000 {'
+mistake 'plus sign refused' "[b'+', rest @ ..] => (false, rest)" "[b'+', ..] => return None"
 mistake 'range before form' '_ => Err(refuse::FORM),
     }
 }
@@ -65,9 +72,9 @@ mistake 'range before form' '_ => Err(refuse::FORM),
 }
 
 /// `X#Y#A#`'
-mistake 'radius of zero' 'size.filter(|&size| size >= 1)' 'size'
+mistake 'radius of zero' 'size.filter(|size| size.millionths >= 1)' 'size'
 mistake 'sign before a radius' 'match magnitude(text) {
-        Some((size, [])) => Ok' 'match coordinate(text) {
+        Some((size, [])) => Ok' 'match magnitude(text.strip_prefix(b"+").unwrap_or(text)) {
         Some((size, [])) => Ok'
 mistake 'T0 is no form' 'let tool = value(ones);
             need(tool >= 1, refuse::RANGE)?;' 'let tool = value(ones);
@@ -91,7 +98,7 @@ mistake 'edit by 2021 alone' 'Command::of_line(text, revision).map_err(|number| 
     'Command::of_line(text, Revision::Rev2021).map_err(|number| refused_text(number, at, text))'
 mistake 'edit by 2019 alone' 'Command::of_line(text, revision).map_err(|number| refused_text(number, at, text))' \
     'Command::of_line(text, Revision::Rev2019).map_err(|number| refused_text(number, at, text))'
-mistake 'second semicolon read' 'need(!rest.contains(&b'\'';'\''), refuse::FORM)?;' ''
+mistake 'second semicolon read' ' if !rest.contains(&b'\'';'\'') =>' ' =>'
 mistake 'lower-case M48' 'b"M48" => Ok(Command::Start),' 'b"M48" | b"m48" => Ok(Command::Start),'
 mistake 'METRIC as INCH' 'b"METRIC" => Ok(Command::Metric)' 'b"METRIC" => Ok(Command::Inch)'
 
@@ -193,12 +200,13 @@ mistake 'G01 asks for a tool' 'self.need_body(self.motion == motion::DOWN)?;
         (self.x, self.y) = (x, y);' 'self.need_tool(motion::DOWN)?;
         (self.x, self.y) = (x, y);'
 mistake 'arc to its start' 'apart != 0 && apart <=' 'apart <='
-mistake 'half a turn refused' 'apart <= 4' 'apart < 4'
-mistake 'arc in 32 bits' 'apart != 0 && apart <= 4 * radius * radius' \
-    'apart != 0 && apart as i32 <= (4 * radius * radius) as i32'
-mistake 'arc rounded' 'apart <= 4 * radius * radius' '((apart as f32).sqrt() <= 2.0 * radius as f32)'
-mistake 'arc leaves the point' 'need(self.can_arc(x, y, radius), refuse::ARC)?;
-        (self.x, self.y) = (x, y);' 'need(self.can_arc(x, y, radius), refuse::ARC)?;'
+mistake 'the limit itself refused' 'apart <= reach * reach' 'apart < reach * reach'
+mistake 'arc in 32 bits' 'apart != 0 && apart <= reach * reach' \
+    'apart != 0 && apart as i32 <= (reach * reach) as i32'
+mistake 'arc in single precision' 'apart <= reach * reach' '((apart as f32).sqrt() <= reach as f32)'
+mistake 'arc in double precision' 'apart <= reach * reach' '((apart as f64).sqrt() <= reach as f64)'
+mistake 'arc leaves the point' 'need(self.can_arc(x, y, radius, decimals), refuse::ARC)?;
+        (self.x, self.y) = (x, y);' 'need(self.can_arc(x, y, radius, decimals), refuse::ARC)?;'
 mistake 'M30 with the tool down' 'self.need_body(self.motion != motion::DOWN)?;
         self.phase = phase::ENDED;' 'self.need_body(true)?;
         self.phase = phase::ENDED;'
@@ -218,23 +226,110 @@ mistake "tool 0's bit in every word" '&& a & 1 == 0' '&& (a | b | c | d) & 1 == 
 mistake 'selected tool must be declared' 'let command = Command::of_numbers' \
     'if tool != 0 && !(State { declared: [a, b, c, d], ..State::default() }).has(tool) { return None; }
     let command = Command::of_numbers'
-mistake 'G05 with a radius' '[6, 0, 0, 0, 0]' '[6, 0, 0, 0, _]'
-mistake 'M30 with an x' '[15, 0, 0, 0, 0]' '[15, 0, _, 0, 0]'
+mistake 'G05 with a radius' '[6, 0, 0, 0, 0, 0]' '[6, 0, 0, 0, _, 0]'
+mistake 'M30 with an x' '[15, 0, 0, 0, 0, 0]' '[15, 0, _, 0, 0, 0]'
 mistake 'hit with a tool' '[9, 0, x' '[9, _, x'
 mistake 'declaration of zero' 'diameter @ 1..=MAX' 'diameter @ 0..=MAX'
 mistake 'selection of tool 0' '[8, tool @ 1..=MAX_TOOL' '[8, tool @ 0..=MAX_TOOL'
-mistake 'radius of one more' 'Command::Clockwise { x, y, radius }
-            }
-            [14, 0, x @ MIN..=MAX, y @ MIN..=MAX, radius @ 1..=MAX]' 'Command::Clockwise { x, y, radius }
-            }
-            [14, 0, x @ MIN..=MAX, y @ MIN..=MAX, radius @ 1..=1_000_000_000]'
+mistake 'radius of one more' '[14, 0, x @ MIN..=MAX, y @ MIN..=MAX, radius @ 1..=MAX, decimals]' \
+    '[14, 0, x @ MIN..=MAX, y @ MIN..=MAX, radius @ 1..=1_000_000_000, decimals]'
+
+# Half circles: how far an arc reaches.
+mistake 'two decimals counted as two' 'decimals.max(3)' 'decimals.max(2)'
+mistake 'one decimal counted as one' 'decimals.max(3)' 'if decimals == 2 { 3 } else { decimals.max(1) }'
+mistake 'no decimals counted as none' 'decimals.max(3)' 'if decimals == 0 { 0 } else { decimals.max(3) }'
+mistake 'fewer than four decimals counted as four' 'decimals.max(3)' 'decimals.max(4)'
+mistake 'four decimals counted as three' 'decimals.max(3)' 'if decimals == 4 { 3 } else { decimals.max(3) }'
+mistake 'five decimals counted as six' 'decimals.max(3)' 'if decimals == 5 { 6 } else { decimals.max(3) }'
+mistake 'always a thousandth' 'PLACES[decimals.max(3) as usize]' 'PLACES[3]'
+mistake 'always a millionth' 'PLACES[decimals.max(3) as usize]' 'PLACES[6]'
+mistake 'nothing added' ' + i64::from(PLACES[decimals.max(3) as usize])' ''
+mistake 'nothing added for six decimals' 'i64::from(PLACES[decimals.max(3) as usize])' \
+    'if decimals == 6 { 0 } else { i64::from(PLACES[decimals.max(3) as usize]) }'
+mistake 'half a unit added' 'i64::from(PLACES[decimals.max(3) as usize])' 'i64::from(PLACES[decimals.max(3) as usize] / 2)'
+mistake 'the unit added to the radius' 'i64::from(PLACES[decimals.max(3) as usize])' '2 * i64::from(PLACES[decimals.max(3) as usize])'
+mistake 'the unit taken away' ' + i64::from(PLACES' ' - i64::from(PLACES'
+mistake 'the squares added' 'let reach = 2 * i64::from(radius) + i64::from(PLACES[decimals.max(3) as usize]);
+        apart != 0 && apart <= reach * reach' 'let (reach, u) = (2 * i64::from(radius), i64::from(PLACES[decimals.max(3) as usize]));
+        apart != 0 && apart <= reach * reach + u * u'
+mistake 'the square of the unit forgotten' 'let reach = 2 * i64::from(radius) + i64::from(PLACES[decimals.max(3) as usize]);
+        apart != 0 && apart <= reach * reach' 'let (reach, u) = (2 * i64::from(radius), i64::from(PLACES[decimals.max(3) as usize]));
+        apart != 0 && apart <= reach * reach + 2 * reach * u'
+mistake 'a smallest arc taken for a point' 'apart != 0 && apart <=' 'apart > 1 && apart <='
+mistake 'later arcs of a span by six decimals' 'let (command, old_here) = row_at(rows, meeting)?;' \
+    'let (command, old_here) = row_at(rows, meeting)?;
+        let command = match command {
+            Command::Counter { x, y, radius, .. } => Command::Counter { x, y, radius, decimals: 6 },
+            other => other,
+        };'
+mistake 'arcs followed by six decimals in writing' 'need(state.after(command) == Ok(after)' 'let strict = match command {
+            Command::Clockwise { x, y, radius, .. } => Command::Clockwise { x, y, radius, decimals: 6 },
+            other => other,
+        };
+        need(state.after(strict) == Ok(after)'
+
+# Half circles: the decimals in a row and in its test.
+mistake 'trailing zeros not counted' 'decimals: decimals as i32 }' \
+    'decimals: (0..decimals as i32).rev().find(|&at| value / 10_u32.pow(decimals as u32 - 1 - at as u32) % 10 != 0).map_or(0, |at| at + 1) }'
+mistake 'at least three decimals kept' 'decimals: decimals as i32 }' 'decimals: decimals.max(3) as i32 }'
+mistake 'a bare point counted' 'decimals: decimals as i32 }' \
+    'decimals: (decimals as i32).max(i32::from(text[..text.len() - rest.len()].contains(&b'\''.'\''))) }'
+mistake 'all digits counted' 'decimals: decimals as i32 }' 'decimals: digits.min(6) as i32 }'
+mistake 'decimals of clockwise arcs lost' '=> [13, 0, x, y, radius, decimals]' '=> [13, 0, x, y, radius, decimals * 0]'
+mistake "a diameter's decimals kept" '[4, tool, 0, 0, diameter, 0]' '[4, tool, 0, 0, diameter, 1]'
+mistake 'decimals before the state' 'const STATE: Range<usize> = 5..15;' 'const STATE: Range<usize> = 6..16;' \
+    'size, ref state @ .., decimals]' 'size, decimals, ref state @ ..]' \
+    '[kind, tool, x, y, size, phase, unit, motion, selected, point_x, point_y, a, b, c, d, decimals]' \
+    '[kind, tool, x, y, size, decimals, phase, unit, motion, selected, point_x, point_y, a, b, c, d]'
+mistake 'decimals compared in the meeting' 'while state != old && meeting < n' \
+    'let same = rows[line * ROW - 1] == command.numbers()[5];
+    while (state != old || meeting == line && !same) && meeting < n'
+mistake "old row's decimals kept by an edit" 'changed[..ROW].copy_from_slice(&encode(command, &span[0]));' \
+    'changed[..ROW - 1].copy_from_slice(&encode(command, &span[0])[..ROW - 1]);'
+mistake 'later rows of a span lose their decimals' 'row[STATE].copy_from_slice(&state.numbers());' \
+    'row[STATE].copy_from_slice(&state.numbers()); if state != &span[0] { row[ROW - 1] = 0; }'
+mistake 'decimals not compared with the radius' 'Some(place) => radius as u32 % place == 0,' 'Some(_) => true,'
+mistake 'decimals compared with thousandths at least' 'Some(place) => radius as u32 % place == 0,' \
+    'Some(&place) => radius as u32 % place.min(1_000) == 0,'
+mistake 'decimals must be needed' 'Some(place) => radius as u32 % place == 0,' \
+    'Some(&place) => radius as u32 % place == 0 && (place == UNIT || radius as u32 % (place * 10) != 0),'
+mistake 'decimals of clockwise arcs not compared' 'if is_written_with(decimals, radius) =>' 'if (0..=6).contains(&decimals) =>'
+mistake '7 decimals let through' 'match PLACES.get(decimals as usize)' \
+    'match PLACES.get(if decimals == 7 { 6 } else { decimals as usize })' \
+    'PLACES[decimals.max(3) as usize]' 'PLACES[decimals.clamp(3, 6) as usize]' \
+    'PLACES[1..=decimals as usize]' 'PLACES[1..=decimals.min(6) as usize]'
+mistake '-1 decimals let through' 'match PLACES.get(decimals as usize)' \
+    'match PLACES.get(if decimals == -1 { 0 } else { decimals as usize })' \
+    'PLACES[1..=decimals as usize]' 'PLACES[1..=decimals.max(0) as usize]'
+mistake 'decimals in eight bits' 'match PLACES.get(decimals as usize)' 'match PLACES.get(decimals as u8 as usize)' \
+    'PLACES[decimals.max(3) as usize]' 'PLACES[(decimals as u8).max(3) as usize]' \
+    'PLACES[1..=decimals as usize]' 'PLACES[1..=decimals as u8 as usize]'
+mistake '6 decimals refused' 'match PLACES.get(decimals as usize)' 'match PLACES[..6].get(decimals as usize)'
+for command in '0, 0, 0, 0, 0, 0] => Command::Comment' '1, 0, 0, 0, 0, 0] => Command::Start' \
+    '2, 0, 0, 0, 0, 0] => Command::Metric' '3, 0, 0, 0, 0, 0] => Command::Inch' \
+    '4, tool @ 1..=MAX_TOOL, 0, 0, diameter @ 1..=MAX, 0] => {' '5, 0, 0, 0, 0, 0] => Command::EndHeader' \
+    '6, 0, 0, 0, 0, 0] => Command::Drill' '7, 0, x @ MIN..=MAX, y @ MIN..=MAX, 0, 0] => Command::Move' \
+    '8, tool @ 1..=MAX_TOOL, 0, 0, 0, 0] => Command::Select' '9, 0, x @ MIN..=MAX, y @ MIN..=MAX, 0, 0] => Command::Hit' \
+    '10, 0, 0, 0, 0, 0] => Command::Down' '11, 0, 0, 0, 0, 0] => Command::Up' \
+    '12, 0, x @ MIN..=MAX, y @ MIN..=MAX, 0, 0] => Command::Line' '15, 0, 0, 0, 0, 0] => Command::End,'; do
+    mistake "decimals let through for kind ${command%%,*}" "[$command" "[${command/, 0] =>/, _] =>}"
+done
+
+# Half circles: the radius written.
+mistake 'radius written without trailing zeros' 'put_radius(out, radius, decimals);' "put_number(out, b'A', radius);"
+mistake 'radius written with three decimals at least' 'PLACES[1..=decimals as usize]' 'PLACES[1..=decimals.max(3) as usize]' \
+    'if decimals > 0 {' 'if true {'
+mistake 'radius written with all decimals' 'PLACES[1..=decimals as usize]' 'PLACES[1..]' 'if decimals > 0 {' 'if true {'
+mistake 'last decimal left out' 'PLACES[1..=decimals as usize]' 'PLACES[1..(decimals as usize).max(1)]'
+mistake 'a point written for no decimals' 'if decimals > 0 {' 'if true {'
+mistake 'a whole part of 0 left out' 'put_whole(out, radius / UNIT);' 'if radius >= UNIT { put_whole(out, radius / UNIT); }'
 
 # Sizes and line numbers.
 mistake 'n of 0' '(1..=MAX_LINES).contains(&n) && numbers' '(0..=MAX_LINES).contains(&n) && numbers'
 mistake 'n of 1,001' 'let numbers = n.min(MAX_LINES) * ROW;
     need((1..=MAX_LINES).contains(&n)' 'let numbers = n.min(MAX_LINES + 1) * ROW;
     need((1..=MAX_LINES + 1).contains(&n)'
-mistake 'n times fifteen wraps' 'let numbers = n.min(MAX_LINES) * ROW;
+mistake 'n times sixteen wraps' 'let numbers = n.min(MAX_LINES) * ROW;
     need((1..=MAX_LINES).contains(&n) && numbers <= table.len(), refused(refuse::TABLE, 0))?;
     Ok(numbers)' 'let numbers = n.wrapping_mul(ROW);
     need(n >= 1 && numbers <= table.len(), refused(refuse::TABLE, 0))?;
@@ -276,14 +371,15 @@ mistake 'last word left out of the agreement' 'while state != old && meeting < n
 mistake 'own row only' 'while state != old && meeting < n' 'while false'
 mistake 'runs on to the end' 'while state != old && meeting < n' 'while meeting < n'
 mistake "row tested after its own refusal" 'let (command, old_here) = row_at(rows, meeting)?;' \
-    'if let Some(command) = Command::of_numbers(rows[(meeting - 1) * ROW..][..COMMAND].try_into().unwrap()) {
+    'let row = &rows[(meeting - 1) * ROW..][..ROW];
+        if let Some(command) = Command::of_numbers([row[0], row[1], row[2], row[3], row[4], row[15]]) {
             state.after(command).map_err(|number| refused(number, meeting as u32))?;
         }
         let (command, old_here) = row_at(rows, meeting)?;'
 mistake '14 not asked' 'need(agreed || state.phase == phase::ENDED' 'need(agreed || true'
 mistake '14 asked though agreed' 'need(agreed || state.phase == phase::ENDED' 'need(meeting < n || state.phase == phase::ENDED'
 mistake '14 at n' '(refuse::UNFINISHED, n as u32 + 1)' '(refuse::UNFINISHED, n as u32)'
-mistake 'old command kept' 'edited[..COMMAND].copy_from_slice(&command.numbers());' ''
+mistake 'old command kept' 'changed[..ROW].copy_from_slice(&encode(command, &span[0]));' ''
 mistake 'last state of the span not written' '.zip(&span) {' '.zip(&span[..span.len() - 1]) {'
 mistake 'row before rerun' '_ => Ok(row_at(rows, line - 1)?.1),' \
     '_ => { let (command, after) = row_at(rows, line - 1)?; if line == 2 { if let Ok(again) = State::default().after(command) { return Ok(again); } } Ok(after) }'
@@ -327,7 +423,7 @@ mistake 'minus of a fraction lost' 'if value < 0 {
 mistake 'tool of one digit' "out.extend_from_slice(&[b'T', b'0' + tool / 10, b'0' + tool % 10]);" \
     "out.push(b'T'); if tool >= 10 { out.push(b'0' + tool / 10); } out.push(b'0' + tool % 10);"
 mistake 'a point after whole numbers' 'if fraction > 0 {
-        out.push' 'if fraction > 0 || whole > 900 {
+        out.push' 'if fraction > 0 || size > 900 * UNIT {
         out.push'
 
 echo "$broken broken copies, $missed missed"

@@ -9,7 +9,7 @@
 #include <stdlib.h>
 #include <string.h>
 
-enum { MOST_BYTES = 65536, MOST_LINES = 1000, ROW = 15, HOLE = 7 };
+enum { MOST_BYTES = 65536, MOST_LINES = 1000, MOST_NUMBERS = MOST_LINES * XNC_ROW_WIDTH, HOLE = 7 };
 
 static int refused(const char *what, uint64_t answer)
 {
@@ -30,15 +30,15 @@ int main(int argc, char **argv)
 {
     static uint8_t file[MOST_BYTES + 1];
     static uint8_t text[MOST_BYTES];
-    static int32_t old[MOST_LINES * ROW];
-    static int32_t edited[MOST_LINES * ROW];
+    static int32_t old[MOST_NUMBERS];
+    static int32_t edited[MOST_NUMBERS];
 
     if (argc != 3) {
         fprintf(stderr, "usage: door LINE TEXT <FILE\n");
         return 2;
     }
     size_t bytes = fread(file, 1, sizeof file, stdin);
-    uint64_t answer = xnc_read(file, bytes, XNC_REVISION_2021, old, MOST_LINES * ROW);
+    uint64_t answer = xnc_read(file, bytes, XNC_REVISION_2021, old, MOST_NUMBERS);
     if (xnc_number(answer) != 0) {
         return refused("read", answer);
     }
@@ -47,7 +47,7 @@ int main(int argc, char **argv)
 
     size_t line = strtoul(argv[1], NULL, 10);
     memcpy(edited, old, sizeof old);
-    answer = xnc_edit(edited, MOST_LINES * ROW, n, line, (const uint8_t *)argv[2], strlen(argv[2]), XNC_REVISION_2021);
+    answer = xnc_edit(edited, MOST_NUMBERS, n, line, (const uint8_t *)argv[2], strlen(argv[2]), XNC_REVISION_2021);
     if (xnc_number(answer) != 0) {
         return refused("edit", answer);
     }
@@ -58,8 +58,8 @@ int main(int argc, char **argv)
     for (size_t i = line; i <= meeting; i++) {
         int32_t before[HOLE] = {0};
         int32_t after[HOLE] = {0};
-        xnc_hole(old, MOST_LINES * ROW, n, i, before, HOLE);
-        xnc_hole(edited, MOST_LINES * ROW, n, i, after, HOLE);
+        xnc_hole(old, MOST_NUMBERS, n, i, before, HOLE);
+        xnc_hole(edited, MOST_NUMBERS, n, i, after, HOLE);
         if (memcmp(before, after, sizeof before) != 0) {
             printf("line %zu: ", i);
             print_move(before);
@@ -69,7 +69,7 @@ int main(int argc, char **argv)
         }
     }
 
-    answer = xnc_write(edited, MOST_LINES * ROW, n, text, sizeof text);
+    answer = xnc_write(edited, MOST_NUMBERS, n, text, sizeof text);
     if (xnc_number(answer) != 0) {
         return refused("write", answer);
     }

@@ -1,8 +1,9 @@
 /* Phaxelunu: XNC drill files read into, edited in and written from a table that the caller lends.
  *
- * A table has fifteen numbers for each line: kind, tool, x, y, diameter or radius, and the state after the line (phase, unit,
- * motion, selected tool, point x and y, four words of the declared tools). Lengths count numbers or bytes. Blocks may have any
- * length, and may be empty; a pointer is not used where its length is 0, but must not be null.
+ * A table has sixteen numbers for each line: kind, tool, x, y, diameter or radius, the state after the line (phase, unit,
+ * motion, selected tool, point x and y, four words of the declared tools), and the decimals written in the radius (0 to 6 for an
+ * arc, 0 for other kinds). Lengths count numbers or bytes. Blocks may have any length, and may be empty; a pointer is not used
+ * where its length is 0, but must not be null.
  *
  * Each function answers (number << 48) + (column << 32) + value: 16 bits of number, 16 of column, 32 of value. Number 0 is success, with
  * column 0, and value the count. Any other number is a refusal of document 01, and value its line. So an answer is below 2^32 exactly on
@@ -21,6 +22,9 @@
 extern "C" {
 #endif
 
+/* Numbers in a row of a table. */
+enum { XNC_ROW_WIDTH = 16 };
+
 /* The revision of XNC by whose rule lines are read. 2019 also takes a declaration with one digit, as T1C0.6; all else is the same by both.
  * Any other number means 2021. A table has no revision: it may be edited by either. */
 enum { XNC_REVISION_2019 = 2019, XNC_REVISION_2021 = 2021 };
@@ -34,7 +38,7 @@ static inline uint32_t xnc_column(uint64_t answer) { return (uint32_t)(answer >>
 /* An answer's count, or its line on refusal. */
 static inline uint32_t xnc_value(uint64_t answer) { return (uint32_t)answer; }
 
-/* Reads a file: the count is its number of lines n, and the first 15 n numbers of the table are its rows. */
+/* Reads a file: the count is its number of lines n, and the first 16 n numbers of the table are its rows. */
 uint64_t xnc_read(const uint8_t *file, size_t file_len, uint32_t revision, int32_t *table, size_t table_len);
 
 /* Line `line` (from 1) of a table of n rows gets new bytes, without a line end. The count is the meeting line: the first, from the edited
@@ -45,8 +49,9 @@ uint64_t xnc_edit(int32_t *table, size_t table_len, size_t n, size_t line, const
  * line makes none, with `hole` unchanged. A `hole` block under seven numbers is refused 15 at line 0, after all other refusals. */
 uint64_t xnc_hole(const int32_t *table, size_t table_len, size_t n, size_t line, int32_t *hole, size_t hole_len);
 
-/* Writes a good table as XNC: the count is the number of bytes. Comments are dropped. Whole numbers are written without a point; some older
- * programs that guess an implied decimal point misread such numbers. */
+/* Writes a good table as XNC: the count is the number of bytes. Comments are dropped. A radius has just the decimals of its row. Whole
+ * numbers, and a radius of 0 decimals, are written without a point; some older programs that guess an implied decimal point misread such
+ * numbers. */
 uint64_t xnc_write(const int32_t *table, size_t table_len, size_t n, uint8_t *text, size_t text_len);
 
 #ifdef __cplusplus

@@ -4,10 +4,9 @@
 //! What is legal where is worked out here a third time, in the loosest way
 //! that serves (`Model`), so that a generated file must be accepted by both.
 
-use crate::library::Revision;
+use crate::library::{Revision, ROW};
 use crate::random::Random;
 
-pub const ROW: usize = 15;
 pub const MAX: i32 = 999_999_999;
 pub const MAX_LINES: usize = 1_000;
 pub const MAX_FILE: usize = 65_536;
@@ -56,12 +55,22 @@ pub fn size(random: &mut Random) -> i32 {
     }
 }
 
-/// One of the spellings of a number: signs, leading zeros, points.
+/// How many decimals a number needs.
+pub fn needed(value: i32) -> usize {
+    format!("{:06}", value.unsigned_abs() % 1_000_000).trim_end_matches('0').len()
+}
+
+/// One of the spellings of a number: signs, leading zeros, points, decimals.
 pub fn spell(value: i32, signed: bool, random: &mut Random) -> String {
+    let needed = needed(value);
+    let decimals = if random.one_in(4) { needed + random.below(7 - needed) } else { needed };
+    spell_with(value, decimals, signed, random)
+}
+
+/// One of its spellings with so many decimals.
+fn spell_with(value: i32, decimals: usize, signed: bool, random: &mut Random) -> String {
     let digits = value.unsigned_abs();
     let fraction = format!("{:06}", digits % 1_000_000);
-    let needed = fraction.trim_end_matches('0').len();
-    let decimals = if random.one_in(4) { needed + random.below(7 - needed) } else { needed };
     let mut text = String::new();
     if value < 0 || (signed && value == 0 && random.one_in(6)) {
         text.push('-');
@@ -88,6 +97,20 @@ pub fn spell(value: i32, signed: bool, random: &mut Random) -> String {
 
 fn point(x: i32, y: i32, random: &mut Random) -> String {
     format!("X{}Y{}", spell(x, true, random), spell(y, true, random))
+}
+
+/// What is made, once it is no longer than a line.
+fn fitting(mut make: impl FnMut() -> String) -> String {
+    loop {
+        let text = make();
+        if text.len() <= MAX_LINE {
+            return text;
+        }
+    }
+}
+
+pub fn line_to((x, y): (i32, i32), random: &mut Random) -> String {
+    fitting(|| format!("G01{}", point(x, y, random)))
 }
 
 fn select(tool: i32, random: &mut Random) -> String {
@@ -201,6 +224,51 @@ pub fn odd_line(random: &mut Random) -> Vec<u8> {
             random.pick(&lines).as_bytes().to_vec()
         }
     }
+}
+
+/// A radius and its decimals, one of their spellings, and how the writer has them.
+pub struct Radius {
+    pub radius: i32,
+    pub decimals: usize,
+    pub text: String,
+    pub written: String,
+}
+
+/// Radii with every number of decimals that they can have: with leading zeros, with
+/// none before the point, with a point and nothing behind it.
+pub fn radii() -> Vec<Radius> {
+    const VALUES: [i32; 13] = [
+        1,
+        10,
+        1_000,
+        50_000,
+        500_000,
+        1_000_000,
+        1_250_000,
+        2_000_000,
+        10_000_000,
+        100_000_000,
+        123_456_700,
+        999_000_000,
+        MAX,
+    ];
+    let mut radii = Vec::new();
+    for radius in VALUES {
+        let (whole, fraction) = (radius / 1_000_000, format!("{:06}", radius % 1_000_000));
+        for decimals in needed(radius)..=6 {
+            let fraction = &fraction[..decimals];
+            let points: &[&str] = if decimals == 0 { &["", "."] } else { &["."] };
+            let written = format!("{whole}{}{fraction}", points[0]);
+            let digits = if whole == 0 { String::new() } else { whole.to_string() };
+            for zeros in [0, 1, 3, 200] {
+                for point in points {
+                    let text = format!("{}{digits}{point}{fraction}", "0".repeat(zeros));
+                    radii.push(Radius { radius, decimals, text, written: written.clone() });
+                }
+            }
+        }
+    }
+    radii
 }
 
 /// All texts of up to `length` bytes of an alphabet.
@@ -412,6 +480,177 @@ fn every_column(lines: &mut Vec<Vec<u8>>) {
     }
 }
 
+// ------------------------------------------------------------ half circles
+
+/// An arc from a known point, its radius written with so many decimals.
+#[derive(Clone, Copy, Debug)]
+pub struct Arc {
+    pub from: (i32, i32),
+    pub to: (i32, i32),
+    pub radius: i32,
+    pub decimals: usize,
+}
+
+/// One unit of the last of so many decimals, in millionths.
+pub fn place(decimals: usize) -> i32 {
+    10_i32.pow(6 - decimals as u32)
+}
+
+/// How far apart the ends of an arc may be.
+pub fn reach(radius: i32, decimals: usize) -> i64 {
+    2 * i64::from(radius) + i64::from(place(decimals.max(3)))
+}
+
+/// The square of the distance.
+fn apart(from: (i32, i32), to: (i32, i32)) -> i128 {
+    let dx = i128::from(to.0) - i128::from(from.0);
+    let dy = i128::from(to.1) - i128::from(from.1);
+    dx * dx + dy * dy
+}
+
+/// The largest whole number whose square is at most `square`.
+fn root(square: i128) -> i64 {
+    let mut root = (square as f64).sqrt() as i128;
+    while root * root > square {
+        root -= 1;
+    }
+    while (root + 1) * (root + 1) <= square {
+        root += 1;
+    }
+    root as i64
+}
+
+/// The least radius of so many decimals that reaches. It may be out of range.
+fn least_radius(from: (i32, i32), to: (i32, i32), decimals: usize) -> i32 {
+    let (apart, place) = (apart(from, to), place(decimals));
+    // One unit more than half the distance is enough; mostly one or two less are.
+    let mut units = root(apart) / 2 / i64::from(place) + 1;
+    while units > 1 && i128::from(reach(units as i32 * place - place, decimals)).pow(2) >= apart {
+        units -= 1;
+    }
+    units as i32 * place
+}
+
+impl Arc {
+    /// The rule, worked out here a third time.
+    pub fn is_possible(&self) -> bool {
+        let apart = apart(self.from, self.to);
+        apart > 0 && apart <= i128::from(reach(self.radius, self.decimals)).pow(2)
+    }
+
+    fn is_in_range(&self) -> bool {
+        let (x, y) = self.to;
+        [x, y].iter().all(|number| (-MAX..=MAX).contains(number))
+            && (1..=MAX).contains(&self.radius)
+    }
+
+    pub fn text(&self, random: &mut Random) -> String {
+        let code = random.pick(&["G02", "G03"]);
+        fitting(|| {
+            let radius = spell_with(self.radius, self.decimals, false, random);
+            format!("{code}{}A{radius}", point(self.to.0, self.to.1, random))
+        })
+    }
+
+    /// The arc's numbers in a row of its kind.
+    pub fn put_into(&self, row: &mut [i32]) {
+        (row[2], row[3]) = self.to;
+        row[4] = self.radius;
+        row[15] = self.decimals as i32;
+    }
+}
+
+/// An arc about the limit, possible or only just not.
+pub fn half_circle(from: (i32, i32), decimals: usize, random: &mut Random) -> Arc {
+    loop {
+        let arc = match random.below(2) {
+            0 => rounded_half_circle(from, decimals, random),
+            _ => arc_at_the_limit(from, decimals, random),
+        };
+        if arc.is_in_range() {
+            return arc;
+        }
+    }
+}
+
+/// A half circle as a layout program writes it: half the distance of its ends,
+/// which may be rounded themselves, rounded down, to the nearest or up; or some
+/// units off.
+fn rounded_half_circle(from: (i32, i32), decimals: usize, random: &mut Random) -> Arc {
+    let place = place(decimals);
+    let span = match random.below(4) {
+        0 => place.saturating_mul(2),
+        1 => place.saturating_mul(10),
+        2 => place.saturating_mul(1_000),
+        _ => MAX,
+    }
+    .min(MAX);
+    let (x, y) = (near(from.0, span, random), near(from.1, span, random));
+    let to = match random.below(4) {
+        0 => (x, from.1),
+        1 => (from.0, y),
+        _ => (x, y),
+    };
+    let apart = apart(from, to);
+    let unit = i64::from(place);
+    let down = root(apart) / 2 / unit * unit;
+    let is_nearer_up = i128::from(2 * down + unit).pow(2) <= apart;
+    let radius = match random.below(6) {
+        0 | 1 => down,
+        2 => down + unit,
+        3 | 4 => down + if is_nearer_up { unit } else { 0 },
+        _ => down + i64::from(random.from(-2, 2)) * unit,
+    };
+    Arc { from, to, radius: radius.clamp(0, 1 << 30) as i32, decimals }
+}
+
+/// A coordinate at most `span` away from another, or it rounded to some place.
+fn near(from: i32, span: i32, random: &mut Random) -> i32 {
+    let to = from.saturating_add(random.from(-span, span));
+    let place = place(random.below(7));
+    match random.below(2) {
+        0 => to,
+        _ => to / place * place,
+    }
+}
+
+/// An arc whose ends are as far apart as its radius allows, or a few millionths
+/// less or more: along an axis, as in a triangle of 3, 4, 5, or anywhere between.
+fn arc_at_the_limit(from: (i32, i32), decimals: usize, random: &mut Random) -> Arc {
+    let place = place(decimals);
+    let most = MAX / place;
+    let units = match random.below(3) {
+        0 => random.from(1, most.min(9)),
+        1 => random.from(1, most.min(1_000)),
+        _ => random.from(1, most),
+    };
+    let radius = units * place;
+    let reach = reach(radius, decimals);
+    let more = match random.below(3) {
+        0 => 0,
+        1 => 1,
+        _ => i64::from(random.from(-3, 3)),
+    };
+    let (dx, dy) = match random.below(6) {
+        0 => (reach + more, 0),
+        1 => (0, reach + more),
+        // The square is over by a few, which a double doesn't tell for large ones.
+        2 => (reach, more),
+        3 => (more, reach),
+        4 => (reach / 5 * 3 + more, reach / 5 * 4),
+        _ => {
+            let dx = random.below(reach as usize + 1) as i64;
+            let square = i128::from(reach).pow(2) - i128::from(dx).pow(2);
+            (dx, root(square) + more)
+        }
+    };
+    let mut end = |from: i32, more: i64| {
+        let to = i64::from(from) + if random.one_in(2) { more } else { -more };
+        to.clamp(i64::from(i32::MIN), i64::from(i32::MAX)) as i32
+    };
+    Arc { from, to: (end(from.0, dx), end(from.1, dy)), radius, decimals }
+}
+
 // ------------------------------------------------------------------- model
 
 /// As much of the state as is needed to choose a command that is allowed, and
@@ -446,36 +685,45 @@ impl Model {
         }
     }
 
-    /// An arc's end and the least radius that reaches it, both in range.
-    fn arc(&self, random: &mut Random) -> Option<(i32, i32, i32)> {
+    fn point(&self) -> (i32, i32) {
+        (self.x.clamp(-MAX, MAX), self.y.clamp(-MAX, MAX))
+    }
+
+    /// A place where an arc may end.
+    fn end(&self, random: &mut Random) -> (i32, i32) {
         let k = random.from(1, 500_000);
+        let (from_x, from_y) = self.point();
         let (x, y) = match random.below(6) {
             0 => (coordinate(random), coordinate(random)),
-            1 => (self.x.saturating_neg(), self.y),
-            2 => (self.x, self.y.saturating_neg()),
-            3 => (
-                self.x.saturating_add(random.from(-9, 9)),
-                self.y.saturating_add(random.from(-9, 9)),
-            ),
-            4 => (self.x.saturating_add(6 * k), self.y.saturating_sub(8 * k)),
-            _ => (self.x.saturating_sub(2 * k), self.y),
+            1 => (-from_x, from_y),
+            2 => (from_x, -from_y),
+            3 => (from_x + random.from(-9, 9), from_y + random.from(-9, 9)),
+            4 => (from_x + 6 * k, from_y - 8 * k),
+            _ => (from_x - 2 * k, from_y),
         };
-        let (x, y) = (x.clamp(-MAX, MAX), y.clamp(-MAX, MAX));
-        let dx = i128::from(x) - i128::from(self.x);
-        let dy = i128::from(y) - i128::from(self.y);
-        let apart = dx * dx + dy * dy;
-        let mut radius = ((apart as f64).sqrt() / 2.0) as i128;
-        while 4 * radius * radius < apart {
-            radius += 1;
+        (x.clamp(-MAX, MAX), y.clamp(-MAX, MAX))
+    }
+
+    /// An arc that this state allows, often only just.
+    fn arc(&self, random: &mut Random) -> Option<Arc> {
+        let decimals = random.below(7);
+        let half = half_circle(self.point(), decimals, random);
+        if random.one_in(2) {
+            return half.is_possible().then_some(half);
         }
-        while radius > 0 && 4 * (radius - 1) * (radius - 1) >= apart {
-            radius -= 1;
+        let (from, to) = (self.point(), self.end(random));
+        let place = place(decimals);
+        let least = least_radius(from, to, decimals);
+        let most = MAX / place * place;
+        if from == to || least > most {
+            return None;
         }
-        if apart > 0 && radius <= i128::from(MAX) {
-            Some((x, y, radius as i32))
-        } else {
-            None
-        }
+        let radius = match random.below(3) {
+            0 => least,
+            1 => least + random.from(0, ((most - least) / place).min(9)) * place,
+            _ => least + random.from(0, (most - least) / place) * place,
+        };
+        Some(Arc { from, to, radius, decimals })
     }
 
     /// A command that this state allows; the state after it.
@@ -524,19 +772,13 @@ impl Model {
                 self.motion = 2;
                 "M16".into()
             }
-            (1..=3, Some((x, y, least))) => {
-                let radius = match random.below(3) {
-                    0 => least,
-                    1 => random.from(least, least.saturating_add(9).min(MAX)),
-                    _ => random.from(least, MAX),
-                };
-                (self.x, self.y) = (x, y);
-                let command = random.pick(&["G02", "G03"]);
-                format!("{command}{}A{}", point(x, y, random), spell(radius, false, random))
+            (1..=3, Some(arc)) => {
+                (self.x, self.y) = arc.to;
+                arc.text(random)
             }
             _ => {
                 (self.x, self.y) = (coordinate(random), coordinate(random));
-                format!("G01{}", point(self.x, self.y, random))
+                line_to((self.x, self.y), random)
             }
         }
     }
@@ -567,14 +809,20 @@ impl Model {
         }
     }
 
-    /// An arc that this state refuses, only just where it can be.
+    /// An arc that this state refuses, mostly only just.
     pub fn refused_arc(&self, random: &mut Random) -> String {
-        let command = random.pick(&["G02", "G03"]);
-        let (x, y, radius) = match self.arc(random) {
-            Some((x, y, least)) if least > 1 && !random.one_in(4) => (x, y, least - 1),
-            _ => (self.x.clamp(-MAX, MAX), self.y.clamp(-MAX, MAX), size(random)),
-        };
-        format!("{command}{}A{}", point(x, y, random), spell(radius, false, random))
+        let from = self.point();
+        if random.one_in(4) {
+            let (radius, decimals) = (random.from(1, 999) * 1_000_000, random.below(7));
+            return Arc { from, to: from, radius, decimals }.text(random);
+        }
+        loop {
+            let decimals = random.below(7);
+            let half = half_circle(from, decimals, random);
+            if !half.is_possible() {
+                return half.text(random);
+            }
+        }
     }
 }
 
@@ -665,6 +913,46 @@ pub fn valid_file(lines: usize, random: &mut Random) -> File {
 
     let ends = line_ends(texts.len(), random);
     File { lines: texts.into_iter().map(String::into_bytes).collect(), ends, revision }
+}
+
+/// A file of half circles, each from the end of the one before; the lines of those
+/// that are looked at; and the line of the first that is impossible.
+pub struct HalfCircles {
+    pub file: File,
+    pub arcs: Vec<(usize, Arc)>,
+    pub refused: Option<usize>,
+}
+
+pub fn half_circles(random: &mut Random) -> HalfCircles {
+    let revision = revision(random);
+    let mut model = Model::start(revision);
+    (model.x, model.y) = (coordinate(random), coordinate(random));
+    let start = fitting(|| format!("G00{}", point(model.x, model.y, random)));
+    let mut texts: Vec<String> =
+        ["M48", "INCH", "T01C1", "%", "T1", &start, "M15"].map(String::from).into();
+    let mut arcs = Vec::new();
+    let mut refused = None;
+    for _ in 0..1 + random.below(12) {
+        let decimals = random.below(7);
+        let arc = half_circle(model.point(), decimals, random);
+        // Most that are impossible are left out, or hardly a file would be accepted.
+        if !arc.is_possible() && !random.one_in(6) {
+            continue;
+        }
+        (model.x, model.y) = arc.to;
+        texts.push(arc.text(random));
+        if refused.is_none() {
+            arcs.push((texts.len(), arc));
+            refused = (!arc.is_possible()).then_some(texts.len());
+        }
+        if random.one_in(4) {
+            texts.push(comment(random));
+        }
+    }
+    texts.extend(["M16".into(), "M30".into()]);
+    let ends = line_ends(texts.len(), random);
+    let lines = texts.into_iter().map(String::into_bytes).collect();
+    HalfCircles { file: File { lines, ends, revision }, arcs, refused }
 }
 
 /// Ends for so many lines: all with a CR, some, or none.
@@ -769,34 +1057,40 @@ fn lengthen(line: &mut Vec<u8>, random: &mut Random) {
     }
 }
 
+/// Numbers that are bad, and some that just pass.
+const BAD: [&str; 28] = [
+    "1000",
+    "-1000",
+    "999.9999999",
+    "1.0000000",
+    "0.0000000",
+    "0",
+    "-0",
+    "+1",
+    "-1",
+    ".",
+    "",
+    "-",
+    "+",
+    "1.2.3",
+    "1e3",
+    "1000000000",
+    "4294967296",
+    "4294967297",
+    "18446744073709551617",
+    "999.999999",
+    "-999.999999",
+    "00000000000000000001",
+    "0.0000001",
+    "1,5",
+    "2.",
+    "2.500",
+    ".0000010",
+    ".000001",
+];
+
 /// One number of the line replaced by a bad one, or by one that just passes.
 fn worsen_number(line: &mut Vec<u8>, random: &mut Random) {
-    const BAD: [&str; 24] = [
-        "1000",
-        "-1000",
-        "999.9999999",
-        "1.0000000",
-        "0.0000000",
-        "0",
-        "-0",
-        "+1",
-        "-1",
-        ".",
-        "",
-        "-",
-        "+",
-        "1.2.3",
-        "1e3",
-        "1000000000",
-        "4294967296",
-        "4294967297",
-        "18446744073709551617",
-        "999.999999",
-        "-999.999999",
-        "00000000000000000001",
-        "0.0000001",
-        "1,5",
-    ];
     let letters: Vec<usize> = (0..line.len()).filter(|&at| b"XYACT".contains(&line[at])).collect();
     if letters.is_empty() {
         return;
@@ -840,7 +1134,7 @@ fn refuse_an_arc(file: &mut File, random: &mut Random) {
     if let Some(at) = file.lines.iter().position(|line| line == b"M16") {
         let mut model = Model::start(file.revision);
         (model.x, model.y) = (coordinate(random), coordinate(random));
-        let from = format!("G01{}", point(model.x, model.y, random));
+        let from = line_to(model.point(), random);
         file.insert(at, model.refused_arc(random).into_bytes());
         file.insert(at, from.into_bytes());
     }
@@ -913,6 +1207,31 @@ pub const TABLE_EDGES: [i32; 34] = [
     256,
 ];
 
+/// The numbers of a legal command of each kind; of an arc with each of several radii.
+pub fn legal_commands() -> Vec<[i32; 5]> {
+    const RADII: [i32; 10] = [
+        1,
+        2_000_000,
+        2_100_000,
+        2_010_000,
+        2_001_000,
+        2_000_100,
+        2_000_010,
+        2_000_001,
+        999_000_000,
+        MAX,
+    ];
+    let (x, y) = (6_000_000, 2_000_000);
+    let mut commands: Vec<[i32; 5]> =
+        [0, 1, 2, 3, 5, 6, 10, 11, 15].map(|kind| [kind, 0, 0, 0, 0]).into();
+    commands.extend([[4, 1, 0, 0, 500_000], [8, 1, 0, 0, 0]]);
+    commands.extend([7, 9, 12].map(|kind| [kind, 0, x, y, 0]));
+    for radius in RADII {
+        commands.extend([13, 14].map(|kind| [kind, 0, x, y, radius]));
+    }
+    commands
+}
+
 fn table_number(now: i32, random: &mut Random) -> i32 {
     match random.below(6) {
         0..=2 => *random.pick(&TABLE_EDGES),
@@ -927,6 +1246,14 @@ pub fn spoil_row(table: &mut [i32], row: usize, random: &mut Random) {
     let field = random.below(ROW);
     let number = &mut table[row * ROW + field];
     *number = table_number(*number, random);
+}
+
+/// Decimals for a radius: mostly as many as it needs, or more.
+fn loose_decimals(radius: i32, random: &mut Random) -> i32 {
+    match random.below(12) {
+        0 => random.from(-1, 7),
+        _ => random.from(needed(radius) as i32, 6),
+    }
 }
 
 /// A row within all ranges, its state not following from anything, but from
@@ -953,6 +1280,9 @@ pub fn loose_row(random: &mut Random) -> [i32; ROW] {
     if matches!(row[0], 4 | 13 | 14) {
         row[4] = size(random);
     }
+    if matches!(row[0], 13 | 14) {
+        row[15] = loose_decimals(row[4], random);
+    }
     row[5] = if random.one_in(6) { random.from(0, 4) } else { 3 };
     row[6] = if random.one_in(6) { random.from(0, 2) } else { 1 };
     row[7] = if random.one_in(3) { random.from(0, 3) } else { 3 };
@@ -960,7 +1290,7 @@ pub fn loose_row(random: &mut Random) -> [i32; ROW] {
     row[9] = place(random);
     row[10] = place(random);
     row[11] = if random.one_in(6) { random.from(0, MAX_WORD) & !1 } else { 6 };
-    for word in &mut row[12..] {
+    for word in &mut row[12..15] {
         *word = if random.one_in(12) { random.from(0, MAX_WORD) } else { 0 };
     }
     row
@@ -977,8 +1307,12 @@ pub fn loose_table(rows: usize, random: &mut Random) -> Vec<i32> {
         let mut numbers = loose_row(random);
         // Often the point of the row before, and the state of this one by rule.
         if row > 0 && random.one_in(2) {
-            let before = table[(row - 1) * ROW + 5..row * ROW].to_vec();
-            numbers[5..].copy_from_slice(&before);
+            let before = &table[(row - 1) * ROW + 5..row * ROW - 1];
+            numbers[5..15].copy_from_slice(before);
+            if matches!(numbers[0], 13 | 14) && random.one_in(2) {
+                let (from, decimals) = ((numbers[9], numbers[10]), random.below(7));
+                half_circle(from, decimals, random).put_into(&mut numbers);
+            }
             if matches!(numbers[0], 7 | 12 | 13 | 14) {
                 (numbers[9], numbers[10]) = (numbers[2], numbers[3]);
             }

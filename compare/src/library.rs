@@ -7,6 +7,12 @@ pub type Answer = (u32, u32, u32);
 
 pub use plain::Revision;
 
+/// Numbers in a row.
+pub const ROW: usize = 16;
+
+#[cfg(not(selftest))]
+const _: () = assert!(xnc::ROW_WIDTH == ROW);
+
 pub trait Library {
     const NAME: &'static str;
     fn read(file: &[u8], revision: Revision, table: &mut [i32]) -> Answer;

@@ -15,14 +15,15 @@
 //! each edit is by one of the two revisions.
 //!
 //! It fails when a pair differs, when a promise is broken, when a refusal that a
-//! function can give never came up, or when 4 or 7 came up at too few columns.
+//! function can give never came up, when 4 or 7 came up at too few columns, or when
+//! half circles with some number of decimals were accepted or refused too seldom.
 
 mod inputs;
 mod library;
 mod random;
 
-use inputs::{File, Model, MAX_FILE, MAX_LINES, ROW};
-use library::{Answer, Library, Plain, Revision, Revision::*, Xnc};
+use inputs::{Arc, File, Model, MAX, MAX_FILE, MAX_LINES};
+use library::{Answer, Library, Plain, Revision, Revision::*, Xnc, ROW};
 use random::Random;
 use std::collections::BTreeSet;
 use std::fmt::Write as _;
@@ -56,6 +57,10 @@ const MAX_COLUMN: u32 = 256;
 /// How many different columns must come up with each of them, in each function. A
 /// 4 can come at all 256; a 7 at all but 1 and 3, where no number begins.
 const LEAST_COLUMNS: usize = 250;
+
+/// How many half circles must be accepted, and how many refused, for each number
+/// of decimals in the radius.
+const LEAST_HALF_CIRCLES: u64 = 50;
 
 /// One of the two, as the revision has it.
 fn by<T>(revision: Revision, [old, new]: [T; 2]) -> T {
@@ -104,6 +109,9 @@ struct Comparison {
     came_up: [[u64; 19]; 6],
     /// The columns that came up in each function with each of `NAME_COLUMN`.
     columns: [[BTreeSet<u32>; 2]; HOLE],
+    /// How many half circles were accepted and refused, by their radius's decimals.
+    accepted: [u64; 7],
+    refused: [u64; 7],
     holes: u64,
     compared: u64,
     promises: u64,
@@ -116,6 +124,8 @@ impl Comparison {
             random: Random::new(seed),
             came_up: [[0; 19]; 6],
             columns: Default::default(),
+            accepted: [0; 7],
+            refused: [0; 7],
             holes: 0,
             compared: 0,
             promises: 0,
@@ -314,7 +324,8 @@ impl Comparison {
     fn read_into_short_tables(&mut self, file: &File) {
         let n = file.lines.len();
         let bytes = file.bytes();
-        for length in [n * ROW - 1, n * ROW, n * ROW - ROW, self.random.below(n * ROW), 0] {
+        let full = n * ROW;
+        for length in [full - 1, full, full - n, full - ROW, self.random.below(full), 0] {
             let lent = self.noise(length);
             self.read(&bytes, file.revision, &lent);
         }
@@ -499,6 +510,7 @@ impl Comparison {
         }
         self.odd_sizes(&table, n);
         self.chain_of_edits(&table, n, 12);
+        self.some_half_circles(2);
         for _ in 0..6 {
             self.spoilt(&table, n);
             self.shifted(&table, n);
@@ -599,6 +611,9 @@ impl Comparison {
             self.all_columns(&File { revision, ..file.clone() }, &table);
         }
         self.all_edges(&table);
+        self.all_decimals(&table);
+        self.all_radii(&file, &table);
+        self.all_half_circles();
     }
 
     /// The paper's edits of its file, the one of request #106 with its column, and
@@ -683,11 +698,156 @@ impl Comparison {
                 self.hole(&table, 15, line, 7);
                 let revision = self.revision();
                 self.edit(&table, 15, line, b";", revision);
-                if at % ROW < 5 {
+                if !(5..15).contains(&(at % ROW)) {
                     self.write(&table, 15, 0);
                 }
             }
             table[at] = number;
+        }
+    }
+
+    /// Every kind of row with every number of decimals, and some that are none, in
+    /// the place of the file's arc; of arcs with radii that have so many and with
+    /// such that have more.
+    fn all_decimals(&mut self, table: &[i32]) {
+        let row = 12 * ROW;
+        for command in inputs::legal_commands() {
+            for decimals in inputs::TABLE_EDGES {
+                let mut table = table.to_vec();
+                table[row..row + 5].copy_from_slice(&command);
+                table[row + 15] = decimals;
+                for line in 12..15 {
+                    self.hole(&table, 15, line, 7);
+                    let revision = self.revision();
+                    self.edit(&table, 15, line, b"G01X4Y1", revision);
+                }
+                self.write(&table, 15, 15 * 39);
+            }
+        }
+    }
+
+    /// Radii in many spellings, read, edited in, written back and read again.
+    fn all_radii(&mut self, file: &File, table: &[i32]) {
+        for radius in inputs::radii() {
+            // A millionth away, which every radius reaches.
+            let arc = format!("G03X4.000001Y0A{}", radius.text).into_bytes();
+            self.edit(table, 15, 13, &arc, file.revision);
+            self.demand_3(file, 13, &arc);
+            let mut changed = file.clone();
+            changed.lines[12] = arc;
+            let table = self.read_valid(&changed);
+            let (size, decimals) = (table[12 * ROW + 4], table[12 * ROW + 15]);
+            if (size, decimals) != (radius.radius, radius.decimals as i32) {
+                self.differs(&format!("A{} is read as {size}, {decimals}", radius.text));
+            }
+            self.writes(&table, 15);
+            let ((_, count, _), text) = self.write(&table, 15, 15 * 39);
+            let expected = format!("\nG03X4.000001Y0A{}\nM16\nM30\n", radius.written);
+            if !text[..count as usize].ends_with(expected.as_bytes()) {
+                self.differs(&format!("A{} isn't written as A{}", radius.text, radius.written));
+            }
+        }
+    }
+
+    /// Half circles with every number of decimals.
+    fn all_half_circles(&mut self) {
+        for decimals in 0..7 {
+            let place = inputs::place(decimals);
+            for units in [1, 2, 10, 123, MAX / place] {
+                self.limit_of_an_arc(units * place, decimals);
+            }
+            for _ in 0..200 {
+                self.any_half_circle(decimals);
+            }
+        }
+    }
+
+    /// Ends as far apart as a radius allows, and a millionth less and more; also a
+    /// millionth aside.
+    fn limit_of_an_arc(&mut self, radius: i32, decimals: usize) {
+        for more in -1..=1 {
+            // The largest reaches further than any ends are apart along an axis.
+            let apart = (inputs::reach(radius, decimals) + more).min(2 * i64::from(MAX));
+            let (a, b) = (-(apart / 2) as i32, (apart - apart / 2) as i32);
+            for (from, to) in [((a, 9), (b, 9)), ((-9, b), (-9, a)), ((a, 0), (b, -1))] {
+                self.half_circle(&Arc { from, to, radius, decimals });
+            }
+        }
+    }
+
+    fn some_half_circles(&mut self, times: usize) {
+        for _ in 0..times {
+            self.file_of_half_circles();
+            let decimals = self.random.below(7);
+            self.any_half_circle(decimals);
+        }
+    }
+
+    fn any_half_circle(&mut self, decimals: usize) {
+        let random = &mut self.random;
+        let from = (inputs::coordinate(random), inputs::coordinate(random));
+        let arc = inputs::half_circle(from, decimals, random);
+        self.half_circle(&arc);
+    }
+
+    /// A half circle that is read, that is put in by an edit, and whose start is
+    /// moved by an edit of the line before it.
+    fn half_circle(&mut self, arc: &Arc) {
+        let random = &mut self.random;
+        let [start, end] = [arc.from, arc.to].map(|to| inputs::line_to(to, random));
+        // So near the end that the arc is possible.
+        let nearby = (arc.to.0 - if arc.to.0 > 0 { 1 } else { -1 }, arc.to.1);
+        let nearby = inputs::line_to(nearby, random);
+        let text = arc.text(random);
+        let revision = self.revision();
+        let file = |from: &str, to: &str| File {
+            revision,
+            ..file_of(&format!("M48\nINCH\nT01C1\n%\nT1\nG00X0Y0\nM15\n{from}\n{to}\nM16\nM30"))
+        };
+        let lent = self.noise(11 * ROW);
+        let (answer, _) = self.read(&file(&start, &text).bytes(), revision, &lent);
+        self.half_circle_answered(arc, 9, answer);
+        for (file, line, text) in
+            [(file(&start, &end), 9, &text), (file(&nearby, &text), 8, &start)]
+        {
+            let table = self.read_valid(&file);
+            let (answer, _) = self.edit(&table, 11, line, text.as_bytes(), revision);
+            self.half_circle_answered(arc, 9, answer);
+            self.demand_3(&file, line, text.as_bytes());
+        }
+    }
+
+    /// Counts a half circle of a line, and holds its answer against the rule.
+    fn half_circle_answered(&mut self, arc: &Arc, line: u32, answer: Answer) {
+        let taken = answer.0 == 0;
+        let counted = if taken { &mut self.accepted } else { &mut self.refused };
+        counted[arc.decimals] += 1;
+        if taken != arc.is_possible() || !(taken || answer == (13, line, 0)) {
+            self.differs(&format!("{arc:?} is answered {answer:?}"));
+        }
+    }
+
+    /// A file of half circles, with which all is done if it is accepted.
+    fn file_of_half_circles(&mut self) {
+        let made = inputs::half_circles(&mut self.random);
+        let (file, n) = (&made.file, made.file.lines.len());
+        let lent = self.noise(n * ROW);
+        let (answer, table) = self.read(&file.bytes(), file.revision, &lent);
+        let verdict = match made.refused {
+            Some(line) => (13, line as u32, 0),
+            None => (0, n as u32, 0),
+        };
+        for (line, arc) in &made.arcs {
+            let taken = made.refused != Some(*line) && answer == verdict;
+            let answer = if taken { (0, n as u32, 0) } else { answer };
+            self.half_circle_answered(arc, *line as u32, answer);
+        }
+        if answer.0 == 0 {
+            self.writes(&table, n);
+            self.holes(&table, n, 8..n);
+            for (line, _) in &made.arcs {
+                self.edits(file, &table, *line, 2);
+            }
         }
     }
 
@@ -709,8 +869,8 @@ impl Comparison {
 
     // -------------------------------------------------------------- report
 
-    /// Prints how often each number came up, and at how many columns; whether each
-    /// one did, and at enough.
+    /// Prints how often each number came up, at how many columns, and how many half
+    /// circles were accepted and refused; whether each one did, and enough of them.
     fn report(&self) -> bool {
         let mut complete = true;
         for (function, numbers) in CAN_GIVE.iter().enumerate() {
@@ -736,7 +896,24 @@ impl Comparison {
             }
             println!("{line}");
         }
+        complete &= self.report_half_circles();
         println!("holes found {}, promises checked {}", self.holes, self.promises);
+        complete
+    }
+
+    fn report_half_circles(&self) -> bool {
+        let mut complete = true;
+        for (name, times) in [("accepted", self.accepted), ("refused", self.refused)] {
+            let mut line = format!("half circles {name:8}  decimals");
+            for (decimals, times) in times.iter().enumerate() {
+                let _ = write!(line, "  {decimals}: {times}");
+                if *times < LEAST_HALF_CIRCLES {
+                    complete = false;
+                    line.push_str(" (too few)");
+                }
+            }
+            println!("{line}");
+        }
         complete
     }
 }
@@ -827,9 +1004,10 @@ fn odd_counts(rows: usize) -> Vec<usize> {
         (1 << 32) + rows,
         usize::MAX / ROW,
         usize::MAX / ROW + 1,
+        usize::MAX / ROW + 1 + rows,
         usize::MAX,
     ];
-    [near, far].concat()
+    [&near[..], &far].concat()
 }
 
 /// Line numbers about a table's own, about the limit, and beyond what fits in 32 bits.
@@ -839,8 +1017,9 @@ fn odd_lines(rows: usize) -> Vec<usize> {
     [&near[..], &far].concat()
 }
 
+/// The state after a line: ten numbers, with one of the command's behind them.
 fn state(table: &[i32], line: usize) -> &[i32] {
-    &table[line * ROW - 10..line * ROW]
+    &table[line * ROW - 11..line * ROW - 1]
 }
 
 /// What 2021 accepts, 2019 accepts as the same table, of one side.

@@ -16,12 +16,10 @@
 #[path = "../../src/library.rs"]
 mod library;
 
-use library::{Answer, Library, Plain, Revision::Rev2021, Xnc};
+use library::{Answer, Library, Plain, Revision::Rev2021, Xnc, ROW};
 use std::hint::black_box;
 use std::process::ExitCode;
 use std::time::Instant;
-
-const ROW: usize = 15;
 
 /// The first line of every file's body: a selection.
 const FIRST: usize = 6;

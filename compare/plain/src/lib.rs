@@ -13,6 +13,7 @@
 mod tests;
 
 use std::io::Write as _;
+use std::ops::Range;
 
 const MAX_FILE: usize = 65_536;
 const MAX_LINES: usize = 1_000;
@@ -21,6 +22,8 @@ const LONGEST_WRITTEN: usize = 39;
 
 /// Millionths in one whole unit.
 const UNIT: u32 = 1_000_000;
+/// Millionths in one unit of the last place, by how many decimals are written.
+const PLACES: [u32; 7] = [UNIT, 100_000, 10_000, 1_000, 100, 10, 1];
 const MAX: i32 = 999_999_999;
 const MIN: i32 = -MAX;
 
@@ -28,10 +31,13 @@ const MAX_TOOL: i32 = 99;
 const WORD_BITS: i32 = 25;
 const MAX_WORD: i32 = (1 << WORD_BITS) - 1;
 
-/// Numbers in a row, those of its command, and those of a hole.
-const ROW: usize = 15;
-const COMMAND: usize = 5;
+/// Numbers in a row, and in a hole.
+const ROW: usize = 16;
 const HOLE: usize = 7;
+
+/// Where a row has its state. All before it is the command's, and so is the one
+/// number behind it, the decimals of an arc's radius.
+const STATE: Range<usize> = 5..15;
 
 /// The numbers of the refusals.
 mod refuse {
@@ -104,12 +110,17 @@ fn need<E>(holds: bool, otherwise: E) -> Result<(), E> {
 
 // ---------------------------------------------------------------- numbers
 
-/// Reads digits with at most one point from the front of `text`. `None` if
-/// there is no digit; else the millionths, themselves `None` if over the
-/// largest or with over six decimals, and the text that follows.
-fn magnitude(text: &[u8]) -> Option<(Option<i32>, &[u8])> {
-    const SCALE: [u32; 7] = [1_000_000, 100_000, 10_000, 1_000, 100, 10, 1];
+/// A number without its sign, and how many decimals it was written with.
+#[derive(Clone, Copy, Debug, PartialEq, Eq)]
+struct Magnitude {
+    millionths: i32,
+    decimals: i32,
+}
 
+/// Reads digits with at most one point from the front of `text`. `None` if
+/// there is no digit; else the number, itself `None` if over the largest or
+/// with over six decimals, and the text that follows.
+fn magnitude(text: &[u8]) -> Option<(Option<Magnitude>, &[u8])> {
     let mut value: u32 = 0;
     let mut rest = text;
     while let [digit @ b'0'..=b'9', after @ ..] = rest {
@@ -133,23 +144,25 @@ fn magnitude(text: &[u8]) -> Option<(Option<i32>, &[u8])> {
     if digits == 0 {
         return None;
     }
-    let millionths = match SCALE.get(decimals) {
-        Some(scale) if value * scale <= MAX as u32 => Some((value * scale) as i32),
+    let number = match PLACES.get(decimals) {
+        Some(place) if value * place <= MAX as u32 => {
+            Some(Magnitude { millionths: (value * place) as i32, decimals: decimals as i32 })
+        }
         _ => None,
     };
-    Some((millionths, rest))
+    Some((number, rest))
 }
 
-/// As `magnitude`, after an optional sign.
+/// As `magnitude`, after an optional sign, and in millionths alone.
 fn coordinate(text: &[u8]) -> Option<(Option<i32>, &[u8])> {
-    match text {
-        [b'-', rest @ ..] => {
-            let (size, rest) = magnitude(rest)?;
-            Some((size.map(|size| -size), rest))
-        }
-        [b'+', rest @ ..] => magnitude(rest),
-        _ => magnitude(text),
-    }
+    let (negative, digits) = match text {
+        [b'-', rest @ ..] => (true, rest),
+        [b'+', rest @ ..] => (false, rest),
+        _ => (false, text),
+    };
+    let (size, rest) = magnitude(digits)?;
+    let signed = |size: Magnitude| if negative { -size.millionths } else { size.millionths };
+    Some((size.map(signed), rest))
 }
 
 // --------------------------------------------------------------- commands
@@ -178,8 +191,8 @@ enum Command {
     Down,
     Up,
     Line { x: i32, y: i32 },
-    Clockwise { x: i32, y: i32, radius: i32 },
-    Counter { x: i32, y: i32, radius: i32 },
+    Clockwise { x: i32, y: i32, radius: i32, decimals: i32 },
+    Counter { x: i32, y: i32, radius: i32, decimals: i32 },
     End,
 }
 
@@ -202,18 +215,15 @@ impl Command {
                 Ok(Command::Line { x, y })
             }
             [b'G', b'0', b'2', rest @ ..] => {
-                let (x, y, radius) = arc(rest)?;
-                Ok(Command::Clockwise { x, y, radius })
+                let (x, y, radius, decimals) = arc(rest)?;
+                Ok(Command::Clockwise { x, y, radius, decimals })
             }
             [b'G', b'0', b'3', rest @ ..] => {
-                let (x, y, radius) = arc(rest)?;
-                Ok(Command::Counter { x, y, radius })
+                let (x, y, radius, decimals) = arc(rest)?;
+                Ok(Command::Counter { x, y, radius, decimals })
             }
             [b'T', rest @ ..] => tool(rest, revision),
-            [b';', rest @ ..] => {
-                need(!rest.contains(&b';'), refuse::FORM)?;
-                Ok(Command::Comment)
-            }
+            [b';', rest @ ..] if !rest.contains(&b';') => Ok(Command::Comment),
             b"M48" => Ok(Command::Start),
             b"METRIC" => Ok(Command::Metric),
             b"INCH" => Ok(Command::Inch),
@@ -226,54 +236,68 @@ impl Command {
         }
     }
 
-    /// The command of a row's first five numbers, if it is legal.
-    fn of_numbers(numbers: [i32; COMMAND]) -> Option<Command> {
+    /// The command of a row's numbers for it, if it is legal.
+    fn of_numbers(numbers: [i32; 6]) -> Option<Command> {
         Some(match numbers {
-            [0, 0, 0, 0, 0] => Command::Comment,
-            [1, 0, 0, 0, 0] => Command::Start,
-            [2, 0, 0, 0, 0] => Command::Metric,
-            [3, 0, 0, 0, 0] => Command::Inch,
-            [4, tool @ 1..=MAX_TOOL, 0, 0, diameter @ 1..=MAX] => {
+            [0, 0, 0, 0, 0, 0] => Command::Comment,
+            [1, 0, 0, 0, 0, 0] => Command::Start,
+            [2, 0, 0, 0, 0, 0] => Command::Metric,
+            [3, 0, 0, 0, 0, 0] => Command::Inch,
+            [4, tool @ 1..=MAX_TOOL, 0, 0, diameter @ 1..=MAX, 0] => {
                 Command::Declare { tool, diameter }
             }
-            [5, 0, 0, 0, 0] => Command::EndHeader,
-            [6, 0, 0, 0, 0] => Command::Drill,
-            [7, 0, x @ MIN..=MAX, y @ MIN..=MAX, 0] => Command::Move { x, y },
-            [8, tool @ 1..=MAX_TOOL, 0, 0, 0] => Command::Select { tool },
-            [9, 0, x @ MIN..=MAX, y @ MIN..=MAX, 0] => Command::Hit { x, y },
-            [10, 0, 0, 0, 0] => Command::Down,
-            [11, 0, 0, 0, 0] => Command::Up,
-            [12, 0, x @ MIN..=MAX, y @ MIN..=MAX, 0] => Command::Line { x, y },
-            [13, 0, x @ MIN..=MAX, y @ MIN..=MAX, radius @ 1..=MAX] => {
-                Command::Clockwise { x, y, radius }
+            [5, 0, 0, 0, 0, 0] => Command::EndHeader,
+            [6, 0, 0, 0, 0, 0] => Command::Drill,
+            [7, 0, x @ MIN..=MAX, y @ MIN..=MAX, 0, 0] => Command::Move { x, y },
+            [8, tool @ 1..=MAX_TOOL, 0, 0, 0, 0] => Command::Select { tool },
+            [9, 0, x @ MIN..=MAX, y @ MIN..=MAX, 0, 0] => Command::Hit { x, y },
+            [10, 0, 0, 0, 0, 0] => Command::Down,
+            [11, 0, 0, 0, 0, 0] => Command::Up,
+            [12, 0, x @ MIN..=MAX, y @ MIN..=MAX, 0, 0] => Command::Line { x, y },
+            [13, 0, x @ MIN..=MAX, y @ MIN..=MAX, radius @ 1..=MAX, decimals]
+                if is_written_with(decimals, radius) =>
+            {
+                Command::Clockwise { x, y, radius, decimals }
             }
-            [14, 0, x @ MIN..=MAX, y @ MIN..=MAX, radius @ 1..=MAX] => {
-                Command::Counter { x, y, radius }
+            [14, 0, x @ MIN..=MAX, y @ MIN..=MAX, radius @ 1..=MAX, decimals]
+                if is_written_with(decimals, radius) =>
+            {
+                Command::Counter { x, y, radius, decimals }
             }
-            [15, 0, 0, 0, 0] => Command::End,
+            [15, 0, 0, 0, 0, 0] => Command::End,
             _ => return None,
         })
     }
 
-    fn numbers(self) -> [i32; COMMAND] {
+    /// Kind, tool, x, y, size, decimals.
+    fn numbers(self) -> [i32; 6] {
         match self {
-            Command::Comment => [0, 0, 0, 0, 0],
-            Command::Start => [1, 0, 0, 0, 0],
-            Command::Metric => [2, 0, 0, 0, 0],
-            Command::Inch => [3, 0, 0, 0, 0],
-            Command::Declare { tool, diameter } => [4, tool, 0, 0, diameter],
-            Command::EndHeader => [5, 0, 0, 0, 0],
-            Command::Drill => [6, 0, 0, 0, 0],
-            Command::Move { x, y } => [7, 0, x, y, 0],
-            Command::Select { tool } => [8, tool, 0, 0, 0],
-            Command::Hit { x, y } => [9, 0, x, y, 0],
-            Command::Down => [10, 0, 0, 0, 0],
-            Command::Up => [11, 0, 0, 0, 0],
-            Command::Line { x, y } => [12, 0, x, y, 0],
-            Command::Clockwise { x, y, radius } => [13, 0, x, y, radius],
-            Command::Counter { x, y, radius } => [14, 0, x, y, radius],
-            Command::End => [15, 0, 0, 0, 0],
+            Command::Comment => [0, 0, 0, 0, 0, 0],
+            Command::Start => [1, 0, 0, 0, 0, 0],
+            Command::Metric => [2, 0, 0, 0, 0, 0],
+            Command::Inch => [3, 0, 0, 0, 0, 0],
+            Command::Declare { tool, diameter } => [4, tool, 0, 0, diameter, 0],
+            Command::EndHeader => [5, 0, 0, 0, 0, 0],
+            Command::Drill => [6, 0, 0, 0, 0, 0],
+            Command::Move { x, y } => [7, 0, x, y, 0, 0],
+            Command::Select { tool } => [8, tool, 0, 0, 0, 0],
+            Command::Hit { x, y } => [9, 0, x, y, 0, 0],
+            Command::Down => [10, 0, 0, 0, 0, 0],
+            Command::Up => [11, 0, 0, 0, 0, 0],
+            Command::Line { x, y } => [12, 0, x, y, 0, 0],
+            Command::Clockwise { x, y, radius, decimals } => [13, 0, x, y, radius, decimals],
+            Command::Counter { x, y, radius, decimals } => [14, 0, x, y, radius, decimals],
+            Command::End => [15, 0, 0, 0, 0, 0],
         }
+    }
+}
+
+/// Whether a radius can be written with so many decimals: 0 to 6, and it is a
+/// multiple of the last place.
+fn is_written_with(decimals: i32, radius: i32) -> bool {
+    match PLACES.get(decimals as usize) {
+        Some(place) => radius as u32 % place == 0,
+        None => false,
     }
 }
 
@@ -298,18 +322,19 @@ fn point(text: &[u8]) -> Result<(i32, i32), u32> {
     }
 }
 
-/// `X#Y#A#` and no more.
-fn arc(text: &[u8]) -> Result<(i32, i32, i32), u32> {
+/// `X#Y#A#` and no more: the point, the radius and its decimals.
+fn arc(text: &[u8]) -> Result<(i32, i32, i32, i32), u32> {
     let (x, y, rest) = loose_point(text).ok_or(refuse::FORM)?;
     let radius = size(rest.strip_prefix(b"A").ok_or(refuse::FORM)?)?;
     let (x, y) = x.zip(y).ok_or(refuse::RANGE)?;
-    Ok((x, y, radius.ok_or(refuse::RANGE)?))
+    let Magnitude { millionths, decimals } = radius.ok_or(refuse::RANGE)?;
+    Ok((x, y, millionths, decimals))
 }
 
 /// A diameter or radius and no more: `Err` for its form, `None` for its range.
-fn size(text: &[u8]) -> Result<Option<i32>, u32> {
+fn size(text: &[u8]) -> Result<Option<Magnitude>, u32> {
     match magnitude(text) {
-        Some((size, [])) => Ok(size.filter(|&size| size >= 1)),
+        Some((size, [])) => Ok(size.filter(|size| size.millionths >= 1)),
         _ => Err(refuse::FORM),
     }
 }
@@ -344,7 +369,7 @@ fn tool(text: &[u8], revision: Revision) -> Result<Command, u32> {
 fn declaration(tool: i32, rest: &[u8]) -> Result<Command, u32> {
     let diameter = size(rest)?;
     need(tool >= 1, refuse::RANGE)?;
-    let diameter = diameter.ok_or(refuse::RANGE)?;
+    let diameter = diameter.ok_or(refuse::RANGE)?.millionths;
     Ok(Command::Declare { tool, diameter })
 }
 
@@ -370,7 +395,9 @@ fn out_of_range(text: &[u8]) -> Option<usize> {
         match text[start - 1] {
             b'T' => matches!(number, [b'0'] | [b'0', b'0' | b'C', ..]),
             b'X' | b'Y' => !matches!(coordinate(number), Some((Some(_), _))),
-            b'C' | b'A' => !matches!(magnitude(number), Some((Some(1..), _))),
+            b'C' | b'A' => {
+                !matches!(magnitude(number), Some((Some(Magnitude { millionths: 1.., .. }), _)))
+            }
             _ => false,
         }
     })
@@ -412,9 +439,8 @@ impl State {
             Command::Down => next.put_down()?,
             Command::Up => next.lift()?,
             Command::Line { x, y } => next.line_to(x, y)?,
-            Command::Clockwise { x, y, radius } | Command::Counter { x, y, radius } => {
-                next.arc_to(x, y, radius)?
-            }
+            Command::Clockwise { x, y, radius, decimals }
+            | Command::Counter { x, y, radius, decimals } => next.arc_to(x, y, radius, decimals)?,
             Command::End => next.end()?,
         }
         Ok(next)
@@ -472,9 +498,9 @@ impl State {
         Ok(())
     }
 
-    fn arc_to(&mut self, x: i32, y: i32, radius: i32) -> Result<(), u32> {
+    fn arc_to(&mut self, x: i32, y: i32, radius: i32, decimals: i32) -> Result<(), u32> {
         self.need_body(self.motion == motion::DOWN)?;
-        need(self.can_arc(x, y, radius), refuse::ARC)?;
+        need(self.can_arc(x, y, radius, decimals), refuse::ARC)?;
         (self.x, self.y) = (x, y);
         Ok(())
     }
@@ -496,16 +522,18 @@ impl State {
         need(motion_fits, refuse::MOTION)
     }
 
-    /// Start and end differ and lie at most a diameter apart.
-    fn can_arc(&self, x: i32, y: i32, radius: i32) -> bool {
+    /// Start and end differ and lie at most a diameter apart, and one unit of the
+    /// radius's last place, since a layout program rounds there. Fewer than three
+    /// decimals count as three. Nothing here reaches 2 to the 63.
+    fn can_arc(&self, x: i32, y: i32, radius: i32, decimals: i32) -> bool {
         let dx = i64::from(x) - i64::from(self.x);
         let dy = i64::from(y) - i64::from(self.y);
-        let radius = i64::from(radius);
         let apart = dx * dx + dy * dy;
-        apart != 0 && apart <= 4 * radius * radius
+        let reach = 2 * i64::from(radius) + i64::from(PLACES[decimals.max(3) as usize]);
+        apart != 0 && apart <= reach * reach
     }
 
-    fn numbers(&self) -> [i32; ROW - COMMAND] {
+    fn numbers(&self) -> [i32; STATE.end - STATE.start] {
         let [a, b, c, d] = self.declared;
         [self.phase, self.unit, self.motion, self.tool, self.x, self.y, a, b, c, d]
     }
@@ -516,9 +544,10 @@ impl State {
 /// A row's command and state, if every number lies in its field's range and
 /// the command is legal.
 fn decode(row: &[i32]) -> Option<(Command, State)> {
-    let &[kind, command_tool, command_x, command_y, size, phase, unit, motion, tool, x, y, a, b, c, d] =
-        row
-    else {
+    let &[kind, command_tool, command_x, command_y, size, ref state @ .., decimals] = row else {
+        return None;
+    };
+    let &[phase, unit, motion, tool, x, y, a, b, c, d] = state else {
         return None;
     };
     let in_range = (phase::BEFORE..=phase::ENDED).contains(&phase)
@@ -532,9 +561,16 @@ fn decode(row: &[i32]) -> Option<(Command, State)> {
     if !in_range {
         return None;
     }
-    let command = Command::of_numbers([kind, command_tool, command_x, command_y, size])?;
+    let command = Command::of_numbers([kind, command_tool, command_x, command_y, size, decimals])?;
     let declared = [a, b, c, d];
     Some((command, State { phase, unit, motion, tool, x, y, declared }))
+}
+
+/// The row of a command and the state after it.
+fn encode(command: Command, state: &State) -> [i32; ROW] {
+    let [kind, tool, x, y, size, decimals] = command.numbers();
+    let [phase, unit, motion, selected, point_x, point_y, a, b, c, d] = state.numbers();
+    [kind, tool, x, y, size, phase, unit, motion, selected, point_x, point_y, a, b, c, d, decimals]
 }
 
 /// The numbers of the first `n` rows, if `n` is 1 to 1,000 and they are there.
@@ -589,8 +625,7 @@ fn rows_of(file: &[u8], revision: Revision) -> Result<Vec<i32>, Refusal> {
         let command =
             Command::of_line(text, revision).map_err(|number| refused_text(number, line, text))?;
         state = state.after(command).map_err(|number| refused(number, line))?;
-        rows.extend(command.numbers());
-        rows.extend(state.numbers());
+        rows.extend_from_slice(&encode(command, &state));
         rest = &rest[end + 1..];
     }
     need(state.phase == phase::ENDED, refused(refuse::UNFINISHED, line + 1))?;
@@ -649,10 +684,11 @@ fn edit_rows(
     let agreed = state == old;
     need(agreed || state.phase == phase::ENDED, refused(refuse::UNFINISHED, n as u32 + 1))?;
 
-    let edited = &mut rows[(line - 1) * ROW..];
-    edited[..COMMAND].copy_from_slice(&command.numbers());
-    for (row, state) in edited.chunks_exact_mut(ROW).zip(&span) {
-        row[COMMAND..].copy_from_slice(&state.numbers());
+    // Only the edited row gets a new command.
+    let changed = &mut rows[(line - 1) * ROW..];
+    changed[..ROW].copy_from_slice(&encode(command, &span[0]));
+    for (row, state) in changed.chunks_exact_mut(ROW).zip(&span) {
+        row[STATE].copy_from_slice(&state.numbers());
     }
     Ok(meeting as u32)
 }
@@ -661,7 +697,7 @@ fn edit_rows(
 
 /// The hole that a row makes: kind, tool, start, end, radius.
 fn hole_of(command: Command, before: &State, after: &State) -> Option<[i32; HOLE]> {
-    let [kind, _, x, y, radius] = command.numbers();
+    let [kind, _, x, y, radius, _] = command.numbers();
     let (start_x, start_y) = match command {
         Command::Hit { .. } => (x, y),
         Command::Line { .. } | Command::Clockwise { .. } | Command::Counter { .. } => {
@@ -767,15 +803,15 @@ fn put_command(out: &mut Vec<u8>, command: Command) {
             out.extend_from_slice(b"G01");
             put_point(out, x, y);
         }
-        Command::Clockwise { x, y, radius } => {
+        Command::Clockwise { x, y, radius, decimals } => {
             out.extend_from_slice(b"G02");
             put_point(out, x, y);
-            put_number(out, b'A', radius);
+            put_radius(out, radius, decimals);
         }
-        Command::Counter { x, y, radius } => {
+        Command::Counter { x, y, radius, decimals } => {
             out.extend_from_slice(b"G03");
             put_point(out, x, y);
-            put_number(out, b'A', radius);
+            put_radius(out, radius, decimals);
         }
         Command::End => out.extend_from_slice(b"M30"),
     }
@@ -792,21 +828,14 @@ fn put_point(out: &mut Vec<u8>, x: i32, y: i32) {
     put_number(out, b'Y', y);
 }
 
+/// A coordinate or a diameter, with no decimals to spare.
 fn put_number(out: &mut Vec<u8>, letter: u8, value: i32) {
     out.push(letter);
     if value < 0 {
         out.push(b'-');
     }
     let size = value.unsigned_abs();
-    let whole = size / UNIT;
-    if whole >= 100 {
-        out.push(b'0' + (whole / 100) as u8);
-    }
-    if whole >= 10 {
-        out.push(b'0' + (whole / 10 % 10) as u8);
-    }
-    out.push(b'0' + (whole % 10) as u8);
-
+    put_whole(out, size / UNIT);
     let mut fraction = size % UNIT;
     if fraction > 0 {
         out.push(b'.');
@@ -817,6 +846,33 @@ fn put_number(out: &mut Vec<u8>, letter: u8, value: i32) {
         fraction %= place;
         place /= 10;
     }
+}
+
+/// A radius, with just the decimals it was read with: they say how far it
+/// reaches.
+fn put_radius(out: &mut Vec<u8>, radius: i32, decimals: i32) {
+    out.push(b'A');
+    let radius = radius.unsigned_abs();
+    put_whole(out, radius / UNIT);
+    if decimals > 0 {
+        out.push(b'.');
+    }
+    let mut fraction = radius % UNIT;
+    for place in &PLACES[1..=decimals as usize] {
+        out.push(b'0' + (fraction / place) as u8);
+        fraction %= place;
+    }
+}
+
+/// A whole part, under 1,000.
+fn put_whole(out: &mut Vec<u8>, whole: u32) {
+    if whole >= 100 {
+        out.push(b'0' + (whole / 100) as u8);
+    }
+    if whole >= 10 {
+        out.push(b'0' + (whole / 10 % 10) as u8);
+    }
+    out.push(b'0' + (whole % 10) as u8);
 }
 
 // --------------------------------------------------------------- printing

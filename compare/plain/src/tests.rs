@@ -31,9 +31,13 @@ fn body_by(revision: Revision, line: &str) -> Answer {
     verdict_by(revision, file.as_bytes())
 }
 
-/// The verdict on one routing line with the tool down at 0, 0.
+/// The verdict on one routing line, at line 8, with the tool down at 0, 0: the same by both
+/// revisions.
 fn rout(line: &str) -> Answer {
-    verdict(format!("M48\nMETRIC\nT01C1\n%\nT01\nG00X0Y0\nM15\n{line}\nM16\nM30\n").as_bytes())
+    let file = format!("M48\nMETRIC\nT01C1\n%\nT01\nG00X0Y0\nM15\n{line}\nM16\nM30\n");
+    let [by_2019, by_2021] = BOTH.map(|revision| verdict_by(revision, file.as_bytes()));
+    assert_eq!(by_2019, by_2021, "{line}");
+    by_2021
 }
 
 /// The verdict on one header line, at line 3.
@@ -91,7 +95,7 @@ fn edited_by(revision: Revision, line: usize, text: &str) -> Answer {
     }
     assert_eq!(read_answer, (0, BENCH_LINES as u32, 0));
     let meeting = (line..=BENCH_LINES)
-        .find(|&at| row(&table, at)[COMMAND..] == row(&before, at)[COMMAND..])
+        .find(|&at| row(&table, at)[STATE] == row(&before, at)[STATE])
         .unwrap_or(BENCH_LINES);
     assert_eq!(answer.1 as usize, meeting);
     assert_eq!(table[..(line - 1) * ROW], before[..(line - 1) * ROW]);
@@ -117,14 +121,23 @@ fn bench_file_prints_as_the_paper_shows() {
 fn bench_file_reads_to_its_rows() {
     let table = bench();
     let word = (1 << 1) | (1 << 7);
-    assert_eq!(row(&table, 1), [1, 0, 0, 0, 0, 1, 0, 0, 0, 0, 0, 0, 0, 0, 0]);
-    assert_eq!(row(&table, 3), [4, 1, 0, 0, 500_000, 2, 1, 0, 0, 0, 0, 2, 0, 0, 0]);
-    assert_eq!(row(&table, 8), [9, 0, 2_000_000, -3_500_000, 0, 3, 1, 1, 1, 0, 0, word, 0, 0, 0]);
+    assert_eq!(row(&table, 1), [1, 0, 0, 0, 0, 1, 0, 0, 0, 0, 0, 0, 0, 0, 0, 0]);
+    assert_eq!(row(&table, 3), [4, 1, 0, 0, 500_000, 2, 1, 0, 0, 0, 0, 2, 0, 0, 0, 0]);
+    assert_eq!(
+        row(&table, 8),
+        [9, 0, 2_000_000, -3_500_000, 0, 3, 1, 1, 1, 0, 0, word, 0, 0, 0, 0]
+    );
     assert_eq!(
         row(&table, 13),
-        [14, 0, 6_000_000, 2_000_000, 2_000_000, 3, 1, 3, 7, 6_000_000, 2_000_000, word, 0, 0, 0]
+        [
+            14, 0, 6_000_000, 2_000_000, 2_000_000, 3, 1, 3, 7, 6_000_000, 2_000_000, word, 0, 0,
+            0, 0
+        ]
     );
-    assert_eq!(row(&table, 15), [15, 0, 0, 0, 0, 4, 1, 2, 7, 6_000_000, 2_000_000, word, 0, 0, 0]);
+    assert_eq!(
+        row(&table, 15),
+        [15, 0, 0, 0, 0, 4, 1, 2, 7, 6_000_000, 2_000_000, word, 0, 0, 0, 0]
+    );
 }
 
 #[test]
@@ -436,7 +449,8 @@ fn reading_refuses_impossible_arcs() {
     assert_eq!(rout("G02X0Y0A1"), (13, 8, 0));
     assert_eq!(rout("G03X-0Y+0A1"), (13, 8, 0));
     assert_eq!(rout("G02X2Y0A1").0, 0);
-    assert_eq!(rout("G02X2.000001Y0A1"), (13, 8, 0));
+    assert_eq!(rout("G02X2.001Y0A1").0, 0);
+    assert_eq!(rout("G02X2.001001Y0A1"), (13, 8, 0));
     assert_eq!(rout("G02X3Y4A2.5").0, 0);
     assert_eq!(rout("G02X3Y4A2.499999"), (13, 8, 0));
     let far = "G01X-999.999999Y-999.999999\n";
@@ -492,7 +506,7 @@ fn editing_refuses_as_reading_does() {
 fn editing_looks_at_the_rows_of_its_span_only() {
     let bad_at = |line: usize| {
         let mut table = bench();
-        table[(line - 1) * ROW + COMMAND] = 5;
+        table[(line - 1) * ROW + STATE.start] = 5;
         table
     };
     // The row before, the edited row, and rows on the way.
@@ -533,7 +547,7 @@ fn no_number_of_a_row_is_outside_its_range() {
         (1, &[1, -1, 100]),
         (2, &[MAX + 1, MIN - 1, i32::MIN, i32::MAX]),
         (3, &[MAX + 1, MIN - 1]),
-        (4, &[0, -1, MAX + 1]),
+        (4, &[0, -1, MAX + 1, 1, 1_999_999, MAX]),
         (5, &[-1, 5]),
         (6, &[-1, 3]),
         (7, &[-1, 4]),
@@ -544,6 +558,7 @@ fn no_number_of_a_row_is_outside_its_range() {
         (12, &[-1, MAX_WORD + 1]),
         (13, &[-1, MAX_WORD + 1]),
         (14, &[-1, MAX_WORD + 1]),
+        (15, &[-1, 7, 8, 100, i32::MIN, i32::MAX]),
     ];
     for (field, values) in outside {
         for &value in values {
@@ -554,9 +569,9 @@ fn no_number_of_a_row_is_outside_its_range() {
 
 #[test]
 fn every_number_of_a_row_has_its_range() {
-    let inside: [(usize, &[i32]); 10] = [
+    let inside: [(usize, &[i32]); 11] = [
         (2, &[MAX, MIN]),
-        (4, &[1, MAX]),
+        (4, &[1_000_000, 999_000_000]),
         (5, &[0, 4]),
         (6, &[0, 2]),
         (7, &[0, 3]),
@@ -565,6 +580,7 @@ fn every_number_of_a_row_has_its_range() {
         (11, &[0, MAX_WORD - 1]),
         (12, &[1, MAX_WORD]),
         (14, &[1, MAX_WORD]),
+        (15, &[0, 1, 2, 3, 4, 5, 6]),
     ];
     for (field, values) in inside {
         for &value in values {
@@ -674,7 +690,10 @@ fn one_digit_declarations_are_read_by_2019_and_have_no_form_by_2021() {
         assert_eq!(header_by(Rev2021, &line), (5, 3, 0), "{line}");
         let table = table_by(Rev2019, &format!("M48\nINCH\n{line}\n%\nM30\n"));
         let declared = 1 << tool;
-        assert_eq!(row(&table, 3), [4, tool, 0, 0, 600_000, 2, 2, 0, 0, 0, 0, declared, 0, 0, 0]);
+        assert_eq!(
+            row(&table, 3),
+            [4, tool, 0, 0, 600_000, 2, 2, 0, 0, 0, 0, declared, 0, 0, 0, 0]
+        );
     }
 }
 
@@ -838,7 +857,7 @@ fn editing_by_2019_puts_in_a_one_digit_declaration() {
     }
     let mut table = bench();
     assert_eq!(edit(&mut table, BENCH_LINES, 3, b"T1C0.6", Rev2019), (0, 3, 0));
-    assert_eq!(row(&table, 3), [4, 1, 0, 0, 600_000, 2, 1, 0, 0, 0, 0, 2, 0, 0, 0]);
+    assert_eq!(row(&table, 3), [4, 1, 0, 0, 600_000, 2, 1, 0, 0, 0, 0, 2, 0, 0, 0, 0]);
 }
 
 #[test]
@@ -872,6 +891,406 @@ fn moves_are_printed_by_one_revision() {
     let older = replaced(3, "T1C0.5");
     assert_eq!(moves("3\tT01C0.6", &older, Rev2019), expected);
     assert_eq!(moves("3\tT01C0.6", &older, Rev2021), "refused\t5\t3\t0\n");
+}
+
+// ----------------------------------------- half circles that come out short
+
+/// One unit of the last place, and `u`, in millionths, by the number of decimals.
+const UNITS: [(i32, i32); 7] = [
+    (1_000_000, 1_000),
+    (100_000, 1_000),
+    (10_000, 1_000),
+    (1_000, 1_000),
+    (100, 100),
+    (10, 10),
+    (1, 1),
+];
+
+const TAKEN: Answer = (0, 11, 0);
+const IMPOSSIBLE: Answer = (13, 9, 0);
+
+/// Millionths, written with so many decimals.
+fn spelt(value: i32, decimals: usize) -> String {
+    let digits = format!("{:07}", value.abs());
+    let (whole, fraction) = digits.split_at(digits.len() - 6);
+    assert!(fraction[decimals..].bytes().all(|digit| digit == b'0'), "{value} {decimals}");
+    let sign = if value < 0 { "-" } else { "" };
+    let point = if decimals > 0 { "." } else { "" };
+    format!("{sign}{whole}{point}{}", &fraction[..decimals])
+}
+
+/// The verdict on an arc from one point to another, at line 9: the same either way round.
+fn arc_between(from: (i32, i32), to: (i32, i32), radius: &str) -> Answer {
+    let [from, to] = [from, to].map(|(x, y)| format!("X{}Y{}", spelt(x, 6), spelt(y, 6)));
+    let arc = |code: &str, from, to| rout(&format!("G01{from}\n{code}{to}A{radius}"));
+    let answer = arc("G02", &from, &to);
+    assert_eq!(arc("G03", &from, &to), answer);
+    assert_eq!(arc("G02", &to, &from), answer);
+    answer
+}
+
+/// From 0, 0 to 1, 1: half the distance is 0.70710678...
+#[test]
+fn half_circles_are_taken_with_the_radius_rounded_and_refused_with_a_unit_less() {
+    for (rounded, less) in [
+        ("1", "0.7"),
+        ("0.8", "0.7"),
+        ("0.71", "0.70"),
+        ("0.707", "0.706"),
+        ("0.7071", "0.7070"),
+        ("0.70711", "0.70710"),
+        ("0.707107", "0.707106"),
+    ] {
+        let end = (1_000_000, 1_000_000);
+        assert_eq!(arc_between((0, 0), end, rounded), TAKEN, "{rounded}");
+        assert_eq!(arc_between((0, 0), end, less), IMPOSSIBLE, "{less}");
+    }
+}
+
+#[test]
+fn half_circles_of_three_places_that_came_out_short() {
+    // Half the distances are 2.5005, 0.0015, 60.1040..., 1.4142... and 0.7071...
+    for (x, y, short, shorter) in [
+        (3_000_600, 4_000_800, "2.500", "2.499"),
+        (3_000, 0, "0.001", "0.000999"),
+        (85_000_000, -85_000_000, "60.104", "60.103"),
+        (-2_000_000, 2_000_000, "1.414", "1.413"),
+        (1_000_000, 1_000_000, ".707", ".706"),
+    ] {
+        assert_eq!(arc_between((0, 0), (x, y), short), TAKEN, "{short}");
+        assert_eq!(arc_between((0, 0), (x, y), shorter), IMPOSSIBLE, "{shorter}");
+    }
+}
+
+#[test]
+fn an_arc_reaches_two_radii_and_a_unit_of_its_last_place() {
+    for (decimals, (place, u)) in UNITS.into_iter().enumerate() {
+        for radius in [1, 2, 3, 7, 250].map(|times| place * times) {
+            let text = spelt(radius, decimals);
+            let reach = 2 * radius + u;
+            for start in [0, 1, 123_456] {
+                let from = (start, -start);
+                let arc = |x, y| arc_between(from, (start + x, y - start), &text);
+                assert_eq!(arc(reach, 0), TAKEN, "{text}");
+                assert_eq!(arc(0, -reach), TAKEN, "{text}");
+                assert_eq!(arc(reach + 1, 0), IMPOSSIBLE, "{text}");
+                assert_eq!(arc(0, -reach - 1), IMPOSSIBLE, "{text}");
+                assert_eq!(arc(reach, 1), IMPOSSIBLE, "{text}");
+                assert_eq!(arc(reach - 1, 0), TAKEN, "{text}");
+                assert_eq!(arc(1, 0), TAKEN, "{text}");
+            }
+        }
+    }
+}
+
+#[test]
+fn an_arc_reaches_as_far_in_every_direction() {
+    // Sides of 3 k and 4 k, five times k apart.
+    for (decimals, (place, u)) in UNITS.into_iter().enumerate() {
+        let radius = 2 * place;
+        let text = spelt(radius, decimals);
+        let k = (2 * radius + u) / 5;
+        assert_eq!(5 * k, 2 * radius + u);
+        assert_eq!(arc_between((0, 0), (3 * k, 4 * k), &text), TAKEN, "{text}");
+        assert_eq!(arc_between((-4 * k, 3 * k), (0, 0), &text), TAKEN, "{text}");
+        assert_eq!(arc_between((0, 0), (3 * k + 1, 4 * k), &text), IMPOSSIBLE, "{text}");
+        assert_eq!(arc_between((-4 * k, 3 * k + 1), (0, 0), &text), IMPOSSIBLE, "{text}");
+    }
+}
+
+#[test]
+fn the_last_place_is_the_last_that_is_written() {
+    for (radius, reach) in [
+        ("2", 4_001_000),
+        ("2.", 4_001_000),
+        ("002", 4_001_000),
+        ("2.0", 4_001_000),
+        ("2.00", 4_001_000),
+        ("2.000", 4_001_000),
+        ("2.0000", 4_000_100),
+        ("2.00000", 4_000_010),
+        ("2.000000", 4_000_001),
+        (".5", 1_001_000),
+        (".5000", 1_000_100),
+        ("0.12345", 246_910),
+        ("1.9", 3_801_000),
+    ] {
+        assert_eq!(arc_between((0, 0), (reach, 0), radius), TAKEN, "{radius}");
+        assert_eq!(arc_between((0, 0), (reach + 1, 0), radius), IMPOSSIBLE, "{radius}");
+    }
+}
+
+#[test]
+fn an_arc_never_ends_where_it_starts() {
+    for radius in ["999", "1", "1.", ".1", ".01", ".001", ".0001", ".00001", ".000001"] {
+        for at in [(0, 0), (1, -1), (MAX, MIN), (MIN, MIN)] {
+            assert_eq!(arc_between(at, at, radius), IMPOSSIBLE, "{radius}");
+        }
+    }
+}
+
+#[test]
+fn largest_radii_reach_no_further_than_they_say() {
+    // Half the sides of 3, 4, 5 triangles.
+    for (radius, x, y) in [("999", 599_400_300, 799_200_400), ("999.999", 599_999_700, 799_999_600)]
+    {
+        assert_eq!(arc_between((-x, -y), (x, y), radius), TAKEN, "{radius}");
+        assert_eq!(arc_between((-x, -y), (x, y + 1), radius), IMPOSSIBLE, "{radius}");
+        assert_eq!(arc_between((-x, y), (x + 1, -y), radius), IMPOSSIBLE, "{radius}");
+    }
+    // With six decimals a millionth more than the sides have, so that there is room aside.
+    assert_eq!(arc_between((MIN, MIN), (MAX, MIN), "999.999999"), TAKEN);
+    assert_eq!(arc_between((MIN, 0), (MAX, 63_245), "999.999999"), TAKEN);
+    assert_eq!(arc_between((MIN, 0), (MAX, 63_246), "999.999999"), IMPOSSIBLE);
+    for (decimals, radius) in
+        [999_000_000, 999_900_000, 999_990_000, MAX - 999, MAX - 99, MAX - 9, MAX]
+            .iter()
+            .enumerate()
+    {
+        assert_eq!(arc_between((MIN, MIN), (MAX, MAX), &spelt(*radius, decimals)), IMPOSSIBLE);
+    }
+}
+
+/// The row of an arc read with this radius, which is far enough for its ends.
+fn arc_row(radius: &str) -> Vec<i32> {
+    let table = table_of(&format!(
+        "M48\nMETRIC\nT01C1\n%\nT01\nG00X0Y0\nM15\nG02X0.0005Y0A{radius}\nM16\nM30\n"
+    ));
+    row(&table, 8).to_vec()
+}
+
+/// How a radius may be written, its millionths, its decimals, and how it is written back.
+const RADII: [(&str, i32, i32, &str); 21] = [
+    ("2", 2_000_000, 0, "2"),
+    ("2.", 2_000_000, 0, "2"),
+    ("02.", 2_000_000, 0, "2"),
+    ("2.0", 2_000_000, 1, "2.0"),
+    ("2.5", 2_500_000, 1, "2.5"),
+    ("2.50", 2_500_000, 2, "2.50"),
+    ("002.500", 2_500_000, 3, "2.500"),
+    ("2.500000", 2_500_000, 6, "2.500000"),
+    (".5", 500_000, 1, "0.5"),
+    ("0.5", 500_000, 1, "0.5"),
+    ("000.50", 500_000, 2, "0.50"),
+    (".05", 50_000, 2, "0.05"),
+    (".0500", 50_000, 4, "0.0500"),
+    ("10", 10_000_000, 0, "10"),
+    ("100.", 100_000_000, 0, "100"),
+    ("100.000000", 100_000_000, 6, "100.000000"),
+    ("12.34567", 12_345_670, 5, "12.34567"),
+    ("12.345670", 12_345_670, 6, "12.345670"),
+    ("0.001000", 1_000, 6, "0.001000"),
+    ("999", 999_000_000, 0, "999"),
+    ("0999.999999", 999_999_999, 6, "999.999999"),
+];
+
+#[test]
+fn decimals_of_a_radius_are_read_and_written_back() {
+    for (text, radius, decimals, written) in RADII {
+        let row = arc_row(text);
+        assert_eq!(row[4], radius, "{text}");
+        assert_eq!(row[15], decimals, "{text}");
+        assert_eq!(row, arc_row(written), "{text}");
+
+        let file = "M48\nMETRIC\nT01C1\n%\nT01\nG00X0Y0\nM15\nG03X0.0005Y0A#\nM16\nM30\n";
+        let expected = file.replace('#', written);
+        let mut out = vec![b'~'; expected.len()];
+        let answer = write(&table_of(&file.replace('#', text)), 10, &mut out);
+        assert_eq!(answer, (0, expected.len() as u32, 0), "{text}");
+        assert_eq!(String::from_utf8(out).unwrap(), expected);
+    }
+}
+
+#[test]
+fn no_number_but_a_radius_has_decimals() {
+    let file = "M48\nINCH\nT01C0.500\n;\n%\nT01\nG00X1.50Y.0\nM15\nG01X2.000Y1.\nG02X1.0Y0.0A4\n\
+                M16\nG05\nX1.10Y2.200000\nM30\n";
+    for row in table_of(file).chunks(ROW) {
+        assert_eq!(row[15], 0, "{row:?}");
+    }
+    let mut text = vec![0; 200];
+    let (number, count, _) = write(&table_of(file), 14, &mut text);
+    let expected = "M48\nINCH\nT01C0.5\n%\nT01\nG00X1.5Y0\nM15\nG01X2Y1\nG02X1Y0A4\nM16\nG05\n\
+                    X1.1Y2.2\nM30\n";
+    assert_eq!(number, 0);
+    assert_eq!(String::from_utf8_lossy(&text[..count as usize]), expected);
+}
+
+#[test]
+fn the_longest_line_is_no_longer() {
+    let line = "G02X-999.999999Y-999.999999A999.999999\n";
+    assert_eq!(line.len(), LONGEST_WRITTEN);
+    let file = format!("M48\nINCH\nT01C1\n%\nT01\nG00X-999.999999Y-999\nM15\n{line}M16\nM30\n");
+    let mut text = vec![0; file.len()];
+    assert_eq!(write(&table_of(&file), 10, &mut text), (0, file.len() as u32, 0));
+    assert_eq!(text, file.into_bytes());
+}
+
+#[test]
+fn decimals_of_a_row_are_0_to_6_for_arcs_and_0_for_others() {
+    let commands: [[i32; 5]; 16] = [
+        [0, 0, 0, 0, 0],
+        [1, 0, 0, 0, 0],
+        [2, 0, 0, 0, 0],
+        [3, 0, 0, 0, 0],
+        [4, 1, 0, 0, 500_000],
+        [5, 0, 0, 0, 0],
+        [6, 0, 0, 0, 0],
+        [7, 0, 1, 2, 0],
+        [8, 1, 0, 0, 0],
+        [9, 0, 1, 2, 0],
+        [10, 0, 0, 0, 0],
+        [11, 0, 0, 0, 0],
+        [12, 0, 1, 2, 0],
+        [13, 0, 1, 2, 3_000_000],
+        [14, 0, 1, 2, 3_000_000],
+        [15, 0, 0, 0, 0],
+    ];
+    let telling = [i32::MIN, i32::MIN + 1, -256, -1, 256, 1 << 16, 1 << 30, i32::MAX];
+    for command in commands {
+        let is_arc = matches!(command[0], 13 | 14);
+        for decimals in (0..=32).chain(telling) {
+            let row = [&command[..], &[0; 10], &[decimals]].concat();
+            let legal = if is_arc { (0..=6).contains(&decimals) } else { decimals == 0 };
+            assert_eq!(decode(&row).is_some(), legal, "{row:?}");
+        }
+    }
+}
+
+#[test]
+fn a_rows_radius_is_a_multiple_of_its_last_place() {
+    for kind in [13, 14] {
+        for (decimals, (place, _)) in (0..).zip(UNITS) {
+            let is_row = |radius: i32| {
+                decode(&[&[kind, 0, 1, 2, radius][..], &[0; 10], &[decimals]].concat()).is_some()
+            };
+            for times in [1, 2, 9, 10, 11, 125, 999] {
+                assert!(is_row(place * times), "{decimals} {times}");
+                if place > 1 {
+                    assert!(!is_row(place * times - 1), "{decimals} {times}");
+                    assert!(!is_row(place * times + 1), "{decimals} {times}");
+                    assert!(!is_row(place * times - place / 10), "{decimals} {times}");
+                    assert!(!is_row(place * times - place / 2), "{decimals} {times}");
+                }
+            }
+            let largest = MAX / place * place;
+            assert!(is_row(largest));
+            assert_eq!(is_row(MAX), place == 1);
+            assert!(![0, -place, largest + place, i32::MIN, i32::MAX].map(is_row).contains(&true));
+        }
+    }
+}
+
+/// The bench file's table, with another radius and decimals in the arc's row.
+fn with_arc(radius: i32, decimals: i32) -> Vec<i32> {
+    let mut table = bench();
+    table[12 * ROW + 4] = radius;
+    table[12 * ROW + 15] = decimals;
+    table
+}
+
+#[test]
+fn decimals_out_of_range_are_refused_18_wherever_a_row_is_tested() {
+    let none = &mut [0; HOLE];
+    for (radius, decimals) in [(2_000_000, -1), (2_000_000, 7), (2_500_000, 0), (1_999_999, 5)] {
+        let bad = with_arc(radius, decimals);
+        assert_eq!(hole(&bad, BENCH_LINES, 13, none), (18, 13, 0));
+        assert_eq!(hole(&bad, BENCH_LINES, 14, none), (18, 13, 0));
+        assert_eq!(write(&bad, BENCH_LINES, &mut []), (18, 13, 0));
+        for (line, text) in [(12, "G01X4Y1"), (13, "M16"), (13, ""), (14, "M16"), (2, "INCH")] {
+            let mut table = bad.clone();
+            let answer = edit(&mut table, BENCH_LINES, line, text.as_bytes(), Rev2021);
+            assert_eq!((answer, &table), ((18, 13, 0), &bad), "{text}");
+        }
+        // A row that isn't looked at isn't tested.
+        assert_eq!(edit(&mut bad.clone(), BENCH_LINES, 8, b"X1Y1", Rev2021), (0, 8, 0));
+        assert_eq!(hole(&bad, BENCH_LINES, 12, none), (0, 1, 0));
+    }
+    for line in (1..=BENCH_LINES).filter(|&line| line != 13) {
+        let mut bad = bench();
+        bad[line * ROW - 1] = 1;
+        assert_eq!(hole(&bad, BENCH_LINES, line, none), (18, line as u32, 0));
+        assert_eq!(write(&bad, BENCH_LINES, &mut []), (18, line as u32, 0));
+        assert_eq!(edit(&mut bad, BENCH_LINES, line, b";", Rev2021), (18, line as u32, 0));
+    }
+}
+
+#[test]
+fn a_row_that_is_possible_by_its_decimals_alone_is_written() {
+    // The arc's ends lie 2 root 2 apart, 2.82842...; 1.414 is enough with three decimals.
+    let mut text = [0; 200];
+    assert_eq!(write(&with_arc(1_414_000, 3), BENCH_LINES, &mut text).0, 0);
+    for decimals in 4..=6 {
+        let table = with_arc(1_414_000, decimals);
+        assert_eq!(write(&table, BENCH_LINES, &mut text), (18, 13, 0));
+        // The row passes its test all the same.
+        assert_eq!(hole(&table, BENCH_LINES, 13, &mut [0; HOLE]), (0, 1, 0));
+    }
+}
+
+#[test]
+fn an_edit_of_decimals_alone_meets_at_once() {
+    for (text, decimals) in [("A2", 0), ("A2.", 0), ("A2.0", 1), ("A2.000", 3), ("A02.000000", 6)] {
+        let text = format!("G03X6Y2{text}");
+        assert_eq!(edited(13, &text), (0, 13, 0), "{text}");
+        let mut table = bench();
+        assert_eq!(edit(&mut table, BENCH_LINES, 13, text.as_bytes(), Rev2021), (0, 13, 0));
+        assert_eq!(table, with_arc(2_000_000, decimals));
+    }
+    // And away from an arc: no number of it is left.
+    let mut table = with_arc(2_000_000, 4);
+    assert_eq!(edit(&mut table, BENCH_LINES, 13, b"G01X6Y2", Rev2021), (0, 13, 0));
+    assert_eq!(table, table_of(&replaced(13, "G01X6Y2")));
+}
+
+#[test]
+fn an_edit_before_an_arc_keeps_its_decimals_and_goes_by_them() {
+    for (decimals, (_, u)) in UNITS.into_iter().enumerate() {
+        let arc = format!("G03X6Y2A{}", spelt(2_000_000, decimals));
+        let old = table_of(&replaced(13, &arc));
+        for (more, expected) in [(0, (0, 13, 0)), (1, (13, 13, 0))] {
+            let start = format!("G01X{}Y2", spelt(2_000_000 - u - more, 6));
+            let mut table = old.clone();
+            assert_eq!(edit(&mut table, BENCH_LINES, 12, start.as_bytes(), Rev2021), expected);
+            let mut fresh = old.clone();
+            let file = replaced(13, &arc).replace("G01X4Y0", &start);
+            read(file.as_bytes(), Rev2021, &mut fresh);
+            assert_eq!(table, fresh, "{arc} {start}");
+        }
+    }
+}
+
+#[test]
+fn editing_refuses_arcs_as_reading_does() {
+    for (text, expected) in [
+        ("G03X8Y0A1.9", (13, 13, 0)),
+        ("G03X8Y0A1.999", (13, 13, 0)),
+        ("G03X8Y0A1.9995", (13, 13, 0)),
+        ("G03X7.999Y0A1.999", (0, 15, 0)),
+        ("G03X7.999001Y0A1.999", (13, 13, 0)),
+        ("G02X8.001Y0A2.", (0, 15, 0)),
+        ("G02X8.001Y0A2.0000", (13, 13, 0)),
+        ("G02X4Y0A2.000", (13, 13, 0)),
+        ("G02X5Y1A.707", (0, 15, 0)),
+        ("G02X5Y1A.706", (13, 13, 0)),
+    ] {
+        for revision in BOTH {
+            assert_eq!(edited_by(revision, 13, text), expected, "{text}");
+        }
+    }
+}
+
+#[test]
+fn holes_and_print_outs_show_no_decimals() {
+    let plainly = print(BENCH.as_bytes(), Rev2021);
+    for text in ["G03X6Y2A2.", "G03X6Y2A2.000", "G03X6Y2A2.000000"] {
+        assert_eq!(print(replaced(13, text).as_bytes(), Rev2021), plainly);
+        let mut found = [PATTERN; 8];
+        assert_eq!(hole(&table_of(&replaced(13, text)), BENCH_LINES, 13, &mut found), (0, 1, 0));
+        assert_eq!(found, [14, 7, 4_000_000, 0, 6_000_000, 2_000_000, 2_000_000, PATTERN]);
+        let moves = format!("13\t{text}\n{BENCH}");
+        assert_eq!(print_moves(moves.as_bytes(), Rev2021), b"span\t13\t13\nmoved\t0\n");
+    }
 }
 
 // -------------------------------------------------------- which column

@@ -18,9 +18,10 @@ use Rattle.lists.specs.Words.{bytes, startsWith}
 use Rattle.lists.proofs.Words.{begins}
 use Rattle.rules.specs.declared.LineAnswer.{LineAnswer}
 use Rattle.rules.specs.Refusals.{noSuchForm, outOfRange}
-use Rattle.rules.specs.Numbers.{Decimal, onNumber, signedOf, unsignedOf, isCoordinate, coordinateOf, isSize, millionths}
+use Rattle.rules.specs.Numbers.{maxPlaces, Decimal, onNumber, signedOf, unsignedOf, isCoordinate, coordinateOf, isSize, millionths}
 use Rattle.rules.specs.Commands.{Form, Formed, is, no-form, atEnd, pointForm, arcForm, columnAfter, says, saysNo, inRange, meaningOf, onForm}
 use Rattle.rules.proofs.Columns.{past-place, TailOf, signed-tail}
+use Rattle.rules.proofs.Ranges.{size-says}
 use Rattle.number.specs.declared.Written.{Written}
 use Rattle.number.specs.declared.Number.{Number}
 use Rattle.number.specs.declared.Number.the-variants as W
@@ -73,6 +74,15 @@ module _ (s : List ℕ) (at : ℕ) {r : Number} (e : r ≡ numberAt (at + 1) (le
 
     pub size-same : sizeRead (d .column) (decimalOf d) ≡ sizeRead (at + 1) (size-read .decimal)
     size-same = size-exact (d .column) d (size-read .decimal) (size-read .holds) ∙ ap (λ (c : ℕ). sizeRead c (size-read .decimal)) (size-read .column-is)
+
+-- a number in range has few places
+pub size-places : (c : ℕ) (d : Decimal) {n : ℕ} {r : SizeRead} → r ≡ sizeRead c d → r ≡ S.Is n → d .places ≤ maxPlaces
+unfolding sizeRead
+size-places c d {n} e g = by (isSize d) refl (sym e ∙ g)
+  where
+    by : (t : Bool) → isSize d ≡ t → cond t (S.Is (millionths d)) (S.Out (outOfRange c)) ≡ S.Is n → d .places ≤ maxPlaces
+    by true h _ = size-says d h .0
+    by false _ q = absurd (let z : _≡_ {A = ℕ} 0 1 = cc in omega arith)
 
 -- ---- the columns behind letters
 
@@ -181,27 +191,29 @@ point-means after P.G00 x y = point-by P.G00 (isCoordinate x) (isCoordinate y) (
 point-means after P.Hit x y = point-by P.Hit (isCoordinate x) (isCoordinate y) (coordinateOf x) (coordinateOf y) (after (code "X")) (after (code "Y"))
 point-means after P.G01 x y = point-by P.G01 (isCoordinate x) (isCoordinate y) (coordinateOf x) (coordinateOf y) (after (code "X")) (after (code "Y"))
 
-abbrev arcAnswer : Turned → Placed → SizeRead → LineAnswer
-arcAnswer k (Is p) (S.Is r) = says (turnCommand k (record { to = p; radius = r }))
-arcAnswer k (Is p) (S.Out e) = saysNo e
-arcAnswer k (Out e) z = saysNo e
+-- d decimals in the radius
+abbrev arcAnswer : Turned → ℕ → Placed → SizeRead → LineAnswer
+arcAnswer k d (Is p) (S.Is r) = says (turnCommand k (record { to = p; radius = r; decimals = d }))
+arcAnswer k d (Is p) (S.Out e) = saysNo e
+arcAnswer k d (Out e) z = saysNo e
 
 module _ (after : ℕ → ℕ) where
-  arc-by : (k : Turned) (a b c : Bool) (x y : ℤ) (r : ℕ)
-      → inRange a (after (code "X")) (inRange b (after (code "Y")) (inRange c (after (code "A")) (says (turnCommand k (record { to = record { x = x; y = y }; radius = r })))))
-      ≡ arcAnswer k (placed (coordinateBy a x (after (code "X"))) (coordinateBy b y (after (code "Y")))) (sizeBy c r (after (code "A")))
+  arc-by : (k : Turned) (a b c : Bool) (x y : ℤ) (r d : ℕ)
+      → inRange a (after (code "X")) (inRange b (after (code "Y"))
+      (inRange c (after (code "A")) (says (turnCommand k (record { to = record { x = x; y = y }; radius = r; decimals = d })))))
+      ≡ arcAnswer k d (placed (coordinateBy a x (after (code "X"))) (coordinateBy b y (after (code "Y")))) (sizeBy c r (after (code "A")))
   unfolding inRange
-  arc-by k true true true x y r = refl
-  arc-by k true true false x y r = refl
-  arc-by k true false c x y r = refl
-  arc-by k false b c x y r = refl
+  arc-by k true true true x y r d = refl
+  arc-by k true true false x y r d = refl
+  arc-by k true false c x y r d = refl
+  arc-by k false b c x y r d = refl
 
   arc-means : (k : Turned) (x y r : Decimal)
       → meaningOf after (turned k x y r)
-      ≡ arcAnswer k (placed (coordinateRead (after (code "X")) x) (coordinateRead (after (code "Y")) y)) (sizeRead (after (code "A")) r)
+      ≡ arcAnswer k (r .places) (placed (coordinateRead (after (code "X")) x) (coordinateRead (after (code "Y")) y)) (sizeRead (after (code "A")) r)
   unfolding meaningOf coordinateRead sizeRead
-  arc-means T.G02 x y r = arc-by T.G02 (isCoordinate x) (isCoordinate y) (isSize r) (coordinateOf x) (coordinateOf y) (millionths r)
-  arc-means T.G03 x y r = arc-by T.G03 (isCoordinate x) (isCoordinate y) (isSize r) (coordinateOf x) (coordinateOf y) (millionths r)
+  arc-means T.G02 x y r = arc-by T.G02 (isCoordinate x) (isCoordinate y) (isSize r) (coordinateOf x) (coordinateOf y) (millionths r) (r .places)
+  arc-means T.G03 x y r = arc-by T.G03 (isCoordinate x) (isCoordinate y) (isSize r) (coordinateOf x) (coordinateOf y) (millionths r) (r .places)
 
 module _ (s : List ℕ) (at : ℕ) {r : PairRead} (er : PairAt s at r) where
   pub pair-none : r ≡ None → (f : Decimal → Decimal → List ℕ → Formed) → saysNo noSuchForm ≡ onForm (columnAfter at (drop at s)) (pointForm (drop at s) f)
@@ -250,8 +262,12 @@ module _ (s : List ℕ) (at : ℕ) {r : PairRead} (er : PairAt s at r) where
           pub arc-goes-on : (a .next ≡ length s → ⊥) → saysNo noSuchForm ≡ onForm (columnAfter at (drop at s)) (arcForm (drop at s) (turned k))
           arc-goes-on n = rw (after-a, size-goes-on s (p .y .next + 1) eq ea n (turned k (pair .x-is) (pair .y-is)))
 
+          abbrev radius-read : ReadsTo s (p .y .next + 1 + 1) (unsignedOf (drop (p .y .next + 1) s)) a
+          radius-read = size-read s (p .y .next + 1) eq ea
+
           pub arc-ends : a .next ≡ length s → {z v : Placed} → z ≡ placeOf p → z ≡ v → {w y : SizeRead} → w ≡ sizeRead (a .column) (decimalOf a) → w ≡ y
-              → arcAnswer k v y ≡ onForm (columnAfter at (drop at s)) (arcForm (drop at s) (turned k))
-          arc-ends n e g ew gw =
-              rw (after-a, size-ends s (p .y .next + 1) eq ea n (turned k (pair .x-is) (pair .y-is)), ← g, e, same-place, ← gw, ew, size-same s (p .y .next + 1) eq ea, ← radius-column)
-              (sym (arc-means (columnAfter at (drop at s)) k (pair .x-is) (pair .y-is) (size-read s (p .y .next + 1) eq ea .decimal)))
+              → arcAnswer k (a .places) v y ≡ onForm (columnAfter at (drop at s)) (arcForm (drop at s) (turned k))
+          arc-ends n {v = v} e g {y = y} ew gw =
+              ap (λ (d : ℕ). arcAnswer k d v y) (radius-read .holds .places-is)
+              ∙ rw (after-a, size-ends s (p .y .next + 1) eq ea n (turned k (pair .x-is) (pair .y-is)), ← g, e, same-place, ← gw, ew, size-same s (p .y .next + 1) eq ea, ← radius-column)
+              (sym (arc-means (columnAfter at (drop at s)) k (pair .x-is) (pair .y-is) (radius-read .decimal)))

@@ -186,6 +186,7 @@ fn arc_line(s: &[u8], at: usize, kind: Turned) -> LineAnswer
                 Arc {
                     to: to,
                     radius: radius,
+                    decimals: a.places as u32,
                 },
             )),
         },

@@ -18,6 +18,7 @@ pub mod EditRefused
 pub mod OneSpelling
 pub mod BenchFile
 pub mod WhichColumn
+pub mod MoreArcs
 pub mod OneDigit
 pub mod OlderAccepts
 pub mod ReadsBackByEither

@@ -13,5 +13,6 @@ pub mod OneSpelling
 pub mod DiametersStand
 pub mod BenchFile
 pub mod WhichColumn
+pub mod MoreArcs
 pub mod OlderAccepts
 pub mod ReadsBackByEither

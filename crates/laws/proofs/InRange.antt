@@ -3,8 +3,9 @@
 use mathlib.Core.Path.{_≡_, refl, subst}
 use mathlib.Core.Bool.{Bool, true, false, cond}
 use mathlib.Core.List.{List, [], _∷_, _++_}
-use Prim.Native.Nat.{ℕ, zero, suc, _+_, _≤_}
+use Prim.Native.Nat.{ℕ, zero, suc, _+_, _-_, _%_, _^_, _≤_}
 use native.Mathlib.Omega.{arith}
+use native.Mathlib.Nat.{mul-mod-left}
 use lib.Dec.{leb, eqb}
 use lib.IntN.{pos, negℤ, natAbs}
 use lib.ListN.{length, getD, take, drop}
@@ -17,9 +18,10 @@ use Rattle.rules.specs.declared.Command.{Command}
 use Rattle.rules.specs.declared.Command.the-variants as K
 use Rattle.rules.specs.declared.LineAnswer.{LineAnswer}
 use Rattle.rules.specs.declared.Revision.{Revision}
-use Rattle.rules.specs.Numbers.{maxLine, maxNumber, maxTool, maxLines, Decimal, withSign, millionths, isCoordinate, coordinateOf, isSize, isTool}
+use Rattle.points.specs.Points.{placeOf}
+use Rattle.rules.specs.Numbers.{maxLine, maxNumber, maxTool, maxPlaces, maxLines, Decimal, withSign, millionths, isCoordinate, coordinateOf, isSize, isTool}
 use Rattle.rules.specs.Lines.{Line, textOf, isPrintable}
-use Rattle.rules.specs.Commands.{Form, comment, m48, metric, inch, declare, percent, g05, g00, select, hit, m15, m16, g01, g02, g03, m30, Formed, is, no-form, formOf, columnAfter, says, pointOf, inRange, pointInRange, arcInRange, meaningOf, onForm, commandOf, lineOf}
+use Rattle.rules.specs.Commands.{Form, comment, m48, metric, inch, declare, percent, g05, g00, select, hit, m15, m16, g01, g02, g03, m30, Formed, is, no-form, formOf, columnAfter, says, pointOf, arcOf, inRange, pointInRange, arcInRange, meaningOf, onForm, commandOf, lineOf}
 use Rattle.rules.specs.State.{taken, hasEnded}
 use Rattle.rules.specs.Reading.{sayOut, answerIn, commandIn, Rows, noRow}
 use Rattle.rules.specs.Ranges.{PointOk, NumberOk, ArcOk, StateOk, CommandOk}
@@ -41,6 +43,11 @@ coordinate-ok d e = rw (sign-same (d .negative) (millionths d)) (coordinate-says
 size-ok : (d : Decimal) → isSize d ≡ true → NumberOk 1 maxNumber (millionths d)
 size-ok d e = let h = size-says d e in record { low = h .1; high = h .2 }
 
+-- a number is a multiple of its last place
+size-whole : (d : Decimal) → millionths d % placeOf (d .places) ≡ 0
+unfolding millionths
+size-whole d = mul-mod-left (d .digits) (10 ^ (maxPlaces - d .places))
+
 tool-ok : (t : ℕ) → isTool t ≡ true → NumberOk 1 maxTool t
 tool-ok t e = let h = tool-says t e in record { low = h .0; high = h .1 }
 
@@ -54,9 +61,10 @@ module _ (after : ℕ → ℕ) where
   point-ok x y a h =
       in-range (isCoordinate x) _ _ (λ p. in-range (isCoordinate y) _ a (λ q. h (record { x-range = coordinate-ok x p; y-range = coordinate-ok y q })))
 
-  arc-ok : (x y r : Decimal) (a : LineAnswer) → (ArcOk (record { to = pointOf x y; radius = millionths r }) → CommandOk (a .command))
-      → CommandOk (arcInRange after x y r a .command)
-  arc-ok x y r a h = point-ok x y _ (λ p. in-range (isSize r) _ a (λ q. h (record { to-range = p; radius-range = size-ok r q })))
+  arc-ok : (x y r : Decimal) (a : LineAnswer) → (ArcOk (arcOf x y r) → CommandOk (a .command)) → CommandOk (arcInRange after x y r a .command)
+  arc-ok x y r a h =
+      point-ok x y _ (λ p. in-range (isSize r) _ a
+      (λ q. h (record { to-range = p; radius-range = size-ok r q; decimals-range = size-says r q .0; whole-places = size-whole r })))
 
   meaning-ok : (f : Form) → CommandOk (meaningOf after f .command)
   unfolding meaningOf
@@ -73,8 +81,8 @@ module _ (after : ℕ → ℕ) where
   meaning-ok m15 = tt
   meaning-ok m16 = tt
   meaning-ok (g01 x y) = point-ok x y (says (K.G01 (pointOf x y))) (λ p. p)
-  meaning-ok (g02 x y r) = arc-ok x y r (says (K.G02 (record { to = pointOf x y; radius = millionths r }))) (λ p. p)
-  meaning-ok (g03 x y r) = arc-ok x y r (says (K.G03 (record { to = pointOf x y; radius = millionths r }))) (λ p. p)
+  meaning-ok (g02 x y r) = arc-ok x y r (says (K.G02 (arcOf x y r))) (λ p. p)
+  meaning-ok (g03 x y r) = arc-ok x y r (says (K.G03 (arcOf x y r))) (λ p. p)
   meaning-ok m30 = tt
 
   form-ok : (f : Formed) → CommandOk (onForm after f .command)

@@ -5,16 +5,17 @@ use mathlib.Core.Bool.{Bool, true, false, _&&_, false≢true, cond}
 use Prim.Native.Nat.{ℕ, _≤_, _%_}
 use native.Mathlib.Omega.{arith}
 use borrow.Author.Tests.{leb-true, le-leb, eqb-true, eq-eqb}
-use lib.Dec.{T, leb}
+use lib.Dec.{T, leb, eqb}
 use lib.IntN.{ℤ, pos, negsuc, natAbs}
 use lib.Signed.{nonNeg}
 use Rattle.lists.proofs.Choice.{both}
-use Rattle.rules.specs.Numbers.{maxNumber, maxTool}
-use Rattle.rules.specs.Kinds.{carriesTool, carriesSize}
+use Rattle.points.specs.Points.{placeOf}
+use Rattle.rules.specs.Numbers.{maxNumber, maxTool, maxPlaces}
+use Rattle.rules.specs.Kinds.{carriesTool, carriesRadius, carriesSize}
 use Rattle.rules.specs.Kinds as Kinds
 use Rattle.rules.specs.State.{over, inchUnit, toolDown}
 use Rattle.tools.specs.Set.{maxWord}
-use Rattle.rules.specs.Rows.{within, isCoord, isEven, isZero, field, fieldN, legalTool, legalPoint, legalSize, legalCommand, legalState}
+use Rattle.rules.specs.Rows.{within, isCoord, isEven, isZero, field, fieldN, legalTool, legalPoint, legalSize, legalDecimals, legalCommand, legalState}
 
 pub both-true : (a b : Bool) → a ≡ true → b ≡ true → (a && b) ≡ true
 both-true true b e f = f
@@ -70,14 +71,16 @@ pub record CommandTested (a : List ℤ) : Type 0 where
   pub tool : legalTool (fieldN a 0) (field a 1) ≡ true
   pub point : legalPoint (fieldN a 0) (field a 2) (field a 3) ≡ true
   pub size : legalSize (fieldN a 0) (field a 4) ≡ true
+  pub decimals : legalDecimals (fieldN a 0) (field a 4) (field a 15) ≡ true
 
 pub command-tested : (a : List ℤ) → legalCommand a ≡ true → CommandTested a
 unfolding legalCommand
 command-tested a e =
     let e0 = both (within 0 Kinds.m30 (field a 0)) _ e in
     let e1 = both (legalTool (fieldN a 0) (field a 1)) _ (e0 .1) in
-    let e2 = both (legalPoint (fieldN a 0) (field a 2) (field a 3)) (legalSize (fieldN a 0) (field a 4)) (e1 .1) in
-    record { kind = e0 .0; tool = e1 .0; point = e2 .0; size = e2 .1 }
+    let e2 = both (legalPoint (fieldN a 0) (field a 2) (field a 3)) _ (e1 .1) in
+    let e3 = both (legalSize (fieldN a 0) (field a 4)) (legalDecimals (fieldN a 0) (field a 4) (field a 15)) (e2 .1) in
+    record { kind = e0 .0; tool = e1 .0; point = e2 .0; size = e3 .0; decimals = e3 .1 }
 
 pub tool-natural : (k : ℕ) (t : ℤ) → legalTool k t ≡ true → T (nonNeg t)
 unfolding legalTool
@@ -86,6 +89,14 @@ tool-natural k t e = picked-natural (carriesTool k) 1 maxTool t e
 pub size-natural : (k : ℕ) (d : ℤ) → legalSize k d ≡ true → T (nonNeg d)
 unfolding legalSize
 size-natural k d e = picked-natural (carriesSize k) 1 maxNumber d e
+
+pub decimals-natural : (k : ℕ) (r d : ℤ) → legalDecimals k r d ≡ true → T (nonNeg d)
+unfolding legalDecimals
+decimals-natural k r d e = by (carriesRadius k) e
+  where
+    by : (t : Bool) → cond t (within 0 maxPlaces d && eqb (natAbs r % placeOf (natAbs d)) 0) (isZero d) ≡ true → T (nonNeg d)
+    by true h = within-natural 0 maxPlaces d (both (within 0 maxPlaces d) _ h .0)
+    by false h = within-natural 0 0 d h
 
 pub record StateTested (a : List ℤ) : Type 0 where
   pub phase : within 0 over (field a 5) ≡ true

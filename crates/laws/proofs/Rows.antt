@@ -2,24 +2,28 @@
 use mathlib.Core.Path.{_≡_, refl, sym, ap, ap₂, _∙_}
 use mathlib.Core.Bool.{Bool, true, false, _&&_, cond}
 use mathlib.Core.List.{List, [], _∷_, _++_}
-use Prim.Native.Nat.{ℕ, zero, suc, _+_, _≤_}
+use Prim.Native.Nat.{ℕ, zero, suc, _+_, _%_, _≤_}
 use native.Mathlib.Omega.{arith}
+use borrow.Author.Tests.{eqb-true, eq-eqb}
+use lib.Dec.{eqb}
 use lib.IntN.{ℤ, pos, natAbs}
 use lib.ListN.{length, take, drop, drop-of-length-le, length-append}
 use lib.Seq.{drop-cons, take-at}
 use Rattle.lists.proofs.Choice.{both}
 use Rattle.runs.specs.Machine.{Row}
 use Rattle.points.specs.declared.Point.{Point}
+use Rattle.points.specs.declared.Arc.{Arc}
+use Rattle.points.specs.Points.{placeOf}
 use Rattle.rules.specs.declared.State.{State}
 use Rattle.rules.specs.declared.Command.{Command}
 use Rattle.rules.specs.declared.Command.the-variants.{Comment, M48, Metric, Inch, Declare, Percent, G05, G00, Select, Hit, M15, M16, G01, G02, G03, M30}
 use Rattle.rules.specs.declared.Looked.the-variants.{Holds, Bad}
-use Rattle.rules.specs.Numbers.{maxNumber, maxTool}
+use Rattle.rules.specs.Numbers.{maxNumber, maxTool, maxPlaces}
 use Rattle.rules.specs.Kinds as Kinds
 use Rattle.rules.specs.State.{over, inchUnit, toolDown}
 use Rattle.tools.specs.Set.{maxWord}
-use Rattle.rules.specs.Rows.{rowWidth, fiveOf, commandNumbers, stateNumbers, rowNumbers, within, isCoord, isZero, legalTool, legalPoint, legalSize, field, fieldN, legalCommand, legalState, rowTest, commandFrom, commandAt, stateAt, lookOf}
-use Rattle.rules.specs.Ranges.{PointOk, StateOk, NumberOk, CommandOk}
+use Rattle.rules.specs.Rows.{rowWidth, fiveOf, commandNumbers, decimalsOf, stateNumbers, rowNumbers, within, isCoord, isZero, legalTool, legalPoint, legalSize, legalDecimals, field, fieldN, legalCommand, legalState, rowTest, commandFrom, commandAt, stateAt, lookOf}
+use Rattle.rules.specs.Ranges.{PointOk, StateOk, NumberOk, ArcOk, CommandOk}
 use Rattle.laws.proofs.RowTests.{both-true, within-yes, within-says, zero-says, coord-yes, coord-says, even-yes, even-says, command-tested, state-tested}
 
 -- ---- how many they are
@@ -49,7 +53,10 @@ state-length s = refl
 
 pub row-length : (r : Row Command State) → length (rowNumbers r) ≡ rowWidth
 unfolding rowNumbers
-row-length r = length-append (commandNumbers (r .command)) (stateNumbers (r .state)) ∙ ap₂ _+_ (command-length (r .command)) (state-length (r .state))
+row-length r =
+    let s = stateNumbers (r .state) in
+    let d = pos (decimalsOf (r .command)) ∷ [] in
+    omega (arith, length-append (commandNumbers (r .command)) (s ++ d), length-append s d, command-length (r .command), state-length (r .state))
 
 -- ---- numbers one by one
 
@@ -73,38 +80,57 @@ point-yes p h = both-true (isCoord (p .x)) (isCoord (p .y)) (coord-yes (p .x) (h
 number-yes : (lo hi n : ℕ) → NumberOk lo hi n → within lo hi (pos n) ≡ true
 number-yes lo hi n h = within-yes lo hi n (h .low) (h .high)
 
--- the numbers of a command are that command's, whatever comes after them, in range or not
-pub command-back : (c : Command) (rest : List ℤ) → commandAt (commandNumbers c ++ rest) ≡ c
-unfolding commandNumbers commandAt commandFrom
-command-back Comment rest = refl
-command-back M48 rest = refl
-command-back Metric rest = refl
-command-back Inch rest = refl
-command-back (Declare t d) rest = refl
-command-back Percent rest = refl
-command-back G05 rest = refl
-command-back (G00 p) rest = refl
-command-back (Select t) rest = refl
-command-back (Hit p) rest = refl
-command-back M15 rest = refl
-command-back M16 rest = refl
-command-back (G01 p) rest = refl
-command-back (G02 a) rest = refl
-command-back (G03 a) rest = refl
-command-back M30 rest = refl
+-- a row's numbers are its command's, in range or not
+pub command-back : (c : Command) (s : State) → commandAt (rowNumbers (record { command = c; state = s })) ≡ c
+unfolding rowNumbers commandNumbers stateNumbers decimalsOf commandAt commandFrom
+command-back Comment s = refl
+command-back M48 s = refl
+command-back Metric s = refl
+command-back Inch s = refl
+command-back (Declare t d) s = refl
+command-back Percent s = refl
+command-back G05 s = refl
+command-back (G00 p) s = refl
+command-back (Select t) s = refl
+command-back (Hit p) s = refl
+command-back M15 s = refl
+command-back M16 s = refl
+command-back (G01 p) s = refl
+command-back (G02 a) s = refl
+command-back (G03 a) s = refl
+command-back M30 s = refl
 
--- the numbers of a state are that state's, whatever five come before them
-pub state-back : (a : List ℤ) (s : State) → length a ≡ 5 → stateAt (a ++ stateNumbers s) ≡ s
+-- the numbers of a state are that state's, whatever five come before them and whatever comes after
+state-between : (a : List ℤ) (s : State) (rest : List ℤ) → length a ≡ 5 → stateAt (a ++ (stateNumbers s ++ rest)) ≡ s
 unfolding stateNumbers stateAt
-state-back a s e = rw (list-fields a 5 e)
+state-between a s rest e = rw (list-fields a 5 e)
 
-command-legal : (c : Command) → CommandOk c → (s : List ℤ) → legalCommand (commandNumbers c ++ s) ≡ true
-unfolding commandNumbers legalCommand legalTool legalPoint legalSize within isCoord
+-- and a row's numbers are its state's
+pub state-back : (c : Command) (s : State) → stateAt (rowNumbers (record { command = c; state = s })) ≡ s
+unfolding rowNumbers
+state-back c s = state-between (commandNumbers c) s (pos (decimalsOf c) ∷ []) (command-length c)
+
+decimals-yes : (a : Arc) → ArcOk a → (within 0 maxPlaces (pos (a .decimals)) && eqb (a .radius % placeOf (a .decimals)) 0) ≡ true
+decimals-yes a h =
+    both-true (within 0 maxPlaces (pos (a .decimals))) (eqb (a .radius % placeOf (a .decimals)) 0)
+    (within-yes 0 maxPlaces (a .decimals) (omega arith) (h .decimals-range)) (eq-eqb (a .radius % placeOf (a .decimals)) 0 (h .whole-places))
+
+arc-yes : (a : Arc) → ArcOk a
+    → ((isCoord (a .to .x) && isCoord (a .to .y))
+    && (within 1 maxNumber (pos (a .radius)) && (within 0 maxPlaces (pos (a .decimals)) && eqb (a .radius % placeOf (a .decimals)) 0))) ≡ true
+arc-yes a h =
+    both-true (isCoord (a .to .x) && isCoord (a .to .y)) _ (point-yes (a .to) (h .to-range))
+    (both-true (within 1 maxNumber (pos (a .radius))) _ (number-yes 1 maxNumber (a .radius) (h .radius-range)) (decimals-yes a h))
+
+command-legal : (c : Command) → CommandOk c → (s : State) → legalCommand (rowNumbers (record { command = c; state = s })) ≡ true
+unfolding rowNumbers commandNumbers stateNumbers decimalsOf legalCommand legalTool legalPoint legalSize legalDecimals within isCoord
 command-legal Comment h s = refl
 command-legal M48 h s = refl
 command-legal Metric h s = refl
 command-legal Inch h s = refl
-command-legal (Declare t d) h s = both-true (within 1 maxTool (pos t)) (within 1 maxNumber (pos d)) (number-yes 1 maxTool t (h .0)) (number-yes 1 maxNumber d (h .1))
+command-legal (Declare t d) h s =
+    both-true (within 1 maxTool (pos t)) (within 1 maxNumber (pos d) && true) (number-yes 1 maxTool t (h .0))
+    (both-true (within 1 maxNumber (pos d)) true (number-yes 1 maxNumber d (h .1)) refl)
 command-legal Percent h s = refl
 command-legal G05 h s = refl
 command-legal (G00 p) h s = both-true (isCoord (p .x) && isCoord (p .y)) true (point-yes p h) refl
@@ -113,13 +139,13 @@ command-legal (Hit p) h s = both-true (isCoord (p .x) && isCoord (p .y)) true (p
 command-legal M15 h s = refl
 command-legal M16 h s = refl
 command-legal (G01 p) h s = both-true (isCoord (p .x) && isCoord (p .y)) true (point-yes p h) refl
-command-legal (G02 a) h s = both-true (isCoord (a .to .x) && isCoord (a .to .y)) (within 1 maxNumber (pos (a .radius))) (point-yes (a .to) (h .to-range)) (number-yes 1 maxNumber (a .radius) (h .radius-range))
-command-legal (G03 a) h s = both-true (isCoord (a .to .x) && isCoord (a .to .y)) (within 1 maxNumber (pos (a .radius))) (point-yes (a .to) (h .to-range)) (number-yes 1 maxNumber (a .radius) (h .radius-range))
+command-legal (G02 a) h s = arc-yes a h
+command-legal (G03 a) h s = arc-yes a h
 command-legal M30 h s = refl
 
-five-state : (k t x y d : ℤ) (s : State) → StateOk s → legalState (k ∷ t ∷ x ∷ y ∷ d ∷ stateNumbers s) ≡ true
+five-state : (k t x y d : ℤ) (s : State) (rest : List ℤ) → StateOk s → legalState (k ∷ t ∷ x ∷ y ∷ d ∷ (stateNumbers s ++ rest)) ≡ true
 unfolding stateNumbers legalState
-five-state k t x y d s h =
+five-state k t x y d s rest h =
     let w = h .tools-range in
     all (within-yes 0 over (s .phase) (omega arith) (h .phase-range))
     (all (within-yes 0 inchUnit (s .unit) (omega arith) (h .unit-range))
@@ -134,20 +160,22 @@ five-state k t x y d s h =
     all : {p q : Bool} → p ≡ true → q ≡ true → (p && q) ≡ true
     all {p} {q} e f = both-true p q e f
 
-state-legal : (a : List ℤ) (s : State) → length a ≡ 5 → StateOk s → legalState (a ++ stateNumbers s) ≡ true
-state-legal a s e h = rw (list-fields a 5 e) (five-state (field a 0) (field a 1) (field a 2) (field a 3) (field a 4) s h)
+state-legal : (c : Command) (s : State) → StateOk s → legalState (rowNumbers (record { command = c; state = s })) ≡ true
+unfolding rowNumbers
+state-legal c s h =
+    let a = commandNumbers c in
+    rw (list-fields a 5 (command-length c)) (five-state (field a 0) (field a 1) (field a 2) (field a 3) (field a 4) s (pos (decimalsOf c) ∷ []) h)
 
 pub look-yes : (a : List ℤ) (c : Command) (s : State) → rowTest a ≡ true → commandAt a ≡ c → stateAt a ≡ s → lookOf a ≡ Holds c s
 unfolding lookOf
 look-yes a c s e f g = rw e (λ i. Holds (f i) (g i))
 
 pub look-row : (r : Row Command State) → CommandOk (r .command) → StateOk (r .state) → lookOf (rowNumbers r) ≡ Holds (r .command) (r .state)
-unfolding rowNumbers rowTest
+unfolding rowTest
 look-row r h k =
     look-yes (rowNumbers r) (r .command) (r .state)
-    (both-true (legalCommand (rowNumbers r)) (legalState (rowNumbers r)) (command-legal (r .command) h (stateNumbers (r .state)))
-    (state-legal (commandNumbers (r .command)) (r .state) (command-length (r .command)) k))
-    (command-back (r .command) (stateNumbers (r .state))) (state-back (commandNumbers (r .command)) (r .state) (command-length (r .command)))
+    (both-true (legalCommand (rowNumbers r)) (legalState (rowNumbers r)) (command-legal (r .command) h (r .state)) (state-legal (r .command) (r .state) k))
+    (command-back (r .command) (r .state)) (state-back (r .command) (r .state))
 
 pub look-numbers : (r : Row Command State) → CommandOk (r .command) → StateOk (r .state) → (rest : List ℤ)
     → lookOf (take rowWidth (rowNumbers r ++ rest)) ≡ Holds (r .command) (r .state)
@@ -186,30 +214,48 @@ module _ (k : ℕ) (t x y d : ℤ) where
   declared : within 1 maxTool t ≡ true → (isZero x && isZero y) ≡ true → within 1 maxNumber d ≡ true → fiveOf k (natAbs t) (pos 0) (pos 0) (natAbs d) ≡ pos k ∷ t ∷ x ∷ y ∷ d ∷ []
   declared ht hp hd = let h = both (isZero x) (isZero y) hp in five-eq k (natural 1 maxTool t ht) (sym (zero-says x (h .0))) (sym (zero-says y (h .1))) (natural 1 maxNumber d hd)
 
--- the five numbers k, t, x, y, d are those of the command that they are read as, which is in range
-abbrev Command-says : ℕ → ℤ → ℤ → ℤ → ℤ → Command → Type 0
-Command-says k t x y d c = (commandNumbers c ≡ pos k ∷ t ∷ x ∷ y ∷ d ∷ []) × CommandOk c
+arc-says : (x y r d : ℤ) → (isCoord x && isCoord y) ≡ true → within 1 maxNumber r ≡ true
+    → (within 0 maxPlaces d && eqb (natAbs r % placeOf (natAbs d)) 0) ≡ true
+    → ArcOk (record { to = record { x = x; y = y }; radius = natAbs r; decimals = natAbs d })
+arc-says x y r d hp hr hd =
+    let h = both (within 0 maxPlaces d) (eqb (natAbs r % placeOf (natAbs d)) 0) hd in
+    record {
+      to-range = point-says x y hp;
+      radius-range = number-says 1 maxNumber r hr;
+      decimals-range = within-says 0 maxPlaces d (h .0) .high;
+      whole-places = eqb-true (natAbs r % placeOf (natAbs d)) 0 (h .1);
+    }
 
-command-says : (k : ℕ) (t x y d : ℤ) → k ≤ Kinds.m30 → legalTool k t ≡ true → legalPoint k x y ≡ true → legalSize k d ≡ true
-    → Command-says k t x y d (commandFrom k (natAbs t) (record { x = x; y = y }) (natAbs d))
-unfolding legalTool legalPoint legalSize commandFrom commandNumbers
-command-says zero t x y d h ht hp hd = (bare 0 t x y d ht hp hd, tt)
-command-says (suc zero) t x y d h ht hp hd = (bare 1 t x y d ht hp hd, tt)
-command-says (suc (suc zero)) t x y d h ht hp hd = (bare 2 t x y d ht hp hd, tt)
-command-says (suc (suc (suc zero))) t x y d h ht hp hd = (bare 3 t x y d ht hp hd, tt)
-command-says (suc (suc (suc (suc zero)))) t x y d h ht hp hd = (declared 4 t x y d ht hp hd, (number-says 1 maxTool t ht, number-says 1 maxNumber d hd))
-command-says (suc (suc (suc (suc (suc zero))))) t x y d h ht hp hd = (bare 5 t x y d ht hp hd, tt)
-command-says (suc (suc (suc (suc (suc (suc zero)))))) t x y d h ht hp hd = (bare 6 t x y d ht hp hd, tt)
-command-says (suc (suc (suc (suc (suc (suc (suc zero))))))) t x y d h ht hp hd = (pointed 7 t x y d ht hd, point-says x y hp)
-command-says (suc (suc (suc (suc (suc (suc (suc (suc zero)))))))) t x y d h ht hp hd = (selected 8 t x y d ht hp hd, number-says 1 maxTool t ht)
-command-says (suc (suc (suc (suc (suc (suc (suc (suc (suc zero))))))))) t x y d h ht hp hd = (pointed 9 t x y d ht hd, point-says x y hp)
-command-says (suc (suc (suc (suc (suc (suc (suc (suc (suc (suc zero)))))))))) t x y d h ht hp hd = (bare 10 t x y d ht hp hd, tt)
-command-says (suc (suc (suc (suc (suc (suc (suc (suc (suc (suc (suc zero))))))))))) t x y d h ht hp hd = (bare 11 t x y d ht hp hd, tt)
-command-says (suc (suc (suc (suc (suc (suc (suc (suc (suc (suc (suc (suc zero)))))))))))) t x y d h ht hp hd = (pointed 12 t x y d ht hd, point-says x y hp)
-command-says (suc (suc (suc (suc (suc (suc (suc (suc (suc (suc (suc (suc (suc zero))))))))))))) t x y d h ht hp hd = (curved 13 t x y d ht hd, record { to-range = point-says x y hp; radius-range = number-says 1 maxNumber d hd })
-command-says (suc (suc (suc (suc (suc (suc (suc (suc (suc (suc (suc (suc (suc (suc zero)))))))))))))) t x y d h ht hp hd = (curved 14 t x y d ht hd, record { to-range = point-says x y hp; radius-range = number-says 1 maxNumber d hd })
-command-says (suc (suc (suc (suc (suc (suc (suc (suc (suc (suc (suc (suc (suc (suc (suc zero))))))))))))))) t x y d h ht hp hd = (bare 15 t x y d ht hp hd, tt)
-command-says (suc (suc (suc (suc (suc (suc (suc (suc (suc (suc (suc (suc (suc (suc (suc (suc k)))))))))))))))) t x y d h ht hp hd = absurd (omega arith)
+-- the numbers k, t, x, y, d and e are those of the command that they are read as, which is in range
+abbrev Command-says : ℕ → ℤ → ℤ → ℤ → ℤ → ℤ → Command → Type 0
+Command-says k t x y d e c = (commandNumbers c ≡ pos k ∷ t ∷ x ∷ y ∷ d ∷ []) × (pos (decimalsOf c) ≡ e) × CommandOk c
+
+no-decimals : (e : ℤ) → isZero e ≡ true → pos 0 ≡ e
+no-decimals e h = sym (zero-says e h)
+
+some-decimals : (r e : ℤ) → (within 0 maxPlaces e && eqb (natAbs r % placeOf (natAbs e)) 0) ≡ true → pos (natAbs e) ≡ e
+some-decimals r e h = natural 0 maxPlaces e (both (within 0 maxPlaces e) _ h .0)
+
+command-says : (k : ℕ) (t x y d e : ℤ) → k ≤ Kinds.m30 → legalTool k t ≡ true → legalPoint k x y ≡ true → legalSize k d ≡ true
+    → legalDecimals k d e ≡ true → Command-says k t x y d e (commandFrom k (natAbs t) (record { x = x; y = y }) (natAbs d) (natAbs e))
+unfolding legalTool legalPoint legalSize legalDecimals commandFrom commandNumbers decimalsOf
+command-says zero t x y d e h ht hp hd he = (bare 0 t x y d ht hp hd, no-decimals e he, tt)
+command-says (suc zero) t x y d e h ht hp hd he = (bare 1 t x y d ht hp hd, no-decimals e he, tt)
+command-says (suc (suc zero)) t x y d e h ht hp hd he = (bare 2 t x y d ht hp hd, no-decimals e he, tt)
+command-says (suc (suc (suc zero))) t x y d e h ht hp hd he = (bare 3 t x y d ht hp hd, no-decimals e he, tt)
+command-says (suc (suc (suc (suc zero)))) t x y d e h ht hp hd he = (declared 4 t x y d ht hp hd, no-decimals e he, (number-says 1 maxTool t ht, number-says 1 maxNumber d hd))
+command-says (suc (suc (suc (suc (suc zero))))) t x y d e h ht hp hd he = (bare 5 t x y d ht hp hd, no-decimals e he, tt)
+command-says (suc (suc (suc (suc (suc (suc zero)))))) t x y d e h ht hp hd he = (bare 6 t x y d ht hp hd, no-decimals e he, tt)
+command-says (suc (suc (suc (suc (suc (suc (suc zero))))))) t x y d e h ht hp hd he = (pointed 7 t x y d ht hd, no-decimals e he, point-says x y hp)
+command-says (suc (suc (suc (suc (suc (suc (suc (suc zero)))))))) t x y d e h ht hp hd he = (selected 8 t x y d ht hp hd, no-decimals e he, number-says 1 maxTool t ht)
+command-says (suc (suc (suc (suc (suc (suc (suc (suc (suc zero))))))))) t x y d e h ht hp hd he = (pointed 9 t x y d ht hd, no-decimals e he, point-says x y hp)
+command-says (suc (suc (suc (suc (suc (suc (suc (suc (suc (suc zero)))))))))) t x y d e h ht hp hd he = (bare 10 t x y d ht hp hd, no-decimals e he, tt)
+command-says (suc (suc (suc (suc (suc (suc (suc (suc (suc (suc (suc zero))))))))))) t x y d e h ht hp hd he = (bare 11 t x y d ht hp hd, no-decimals e he, tt)
+command-says (suc (suc (suc (suc (suc (suc (suc (suc (suc (suc (suc (suc zero)))))))))))) t x y d e h ht hp hd he = (pointed 12 t x y d ht hd, no-decimals e he, point-says x y hp)
+command-says (suc (suc (suc (suc (suc (suc (suc (suc (suc (suc (suc (suc (suc zero))))))))))))) t x y d e h ht hp hd he = (curved 13 t x y d ht hd, some-decimals d e he, arc-says x y d e hp hd he)
+command-says (suc (suc (suc (suc (suc (suc (suc (suc (suc (suc (suc (suc (suc (suc zero)))))))))))))) t x y d e h ht hp hd he = (curved 14 t x y d ht hd, some-decimals d e he, arc-says x y d e hp hd he)
+command-says (suc (suc (suc (suc (suc (suc (suc (suc (suc (suc (suc (suc (suc (suc (suc zero))))))))))))))) t x y d e h ht hp hd he = (bare 15 t x y d ht hp hd, no-decimals e he, tt)
+command-says (suc (suc (suc (suc (suc (suc (suc (suc (suc (suc (suc (suc (suc (suc (suc (suc k)))))))))))))))) t x y d e h ht hp hd he = absurd (omega arith)
 
 -- the ten numbers of a state, equal one by one
 state-says : (a : List ℤ) → legalState a ≡ true
@@ -251,11 +297,13 @@ test-says a n e =
     let f = both (legalCommand a) (legalState a) e in
     let g = command-tested a (f .0) in
     let k = within-says 0 Kinds.m30 (field a 0) (g .kind) in
-    let c = command-says (fieldN a 0) (field a 1) (field a 2) (field a 3) (field a 4) (k .high) (g .tool) (g .point) (g .size) in
+    let c
+    = command-says (fieldN a 0) (field a 1) (field a 2) (field a 3) (field a 4) (field a 15) (k .high) (g .tool) (g .point) (g .size) (g .decimals) in
     let s = state-says a (f .1) in (
       list-fields a rowWidth n
-          ∙ sym (ap₂ _++_ (c .0 ∙ ap (λ (z : ℤ). z ∷ field a 1 ∷ field a 2 ∷ field a 3 ∷ field a 4 ∷ []) (k .natural)) (s .0)),
-      c .1,
+          ∙ sym (ap₂ _++_ (c .0 ∙ ap (λ (z : ℤ). z ∷ field a 1 ∷ field a 2 ∷ field a 3 ∷ field a 4 ∷ []) (k .natural))
+          (ap₂ _++_ (s .0) (ap (λ (z : ℤ). z ∷ []) (c .1)))),
+      c .2,
       s .1,
     )
 

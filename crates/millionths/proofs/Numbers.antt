@@ -1,5 +1,5 @@
--- Numbers of millionths: a whole number has no fraction, any other a point and its decimals; each is as long as its parts together.
--- The decimals are the first one, and then those of what is left, tenfold.
+-- Numbers of millionths: with no decimals a number has no fraction, with any a point and its decimals; each is as long as its parts together.
+-- Decimals are the first one, and then those of what is left, tenfold, one fewer; so are those of the shortest number.
 use mathlib.Core.Path.{_≡_, refl, sym, ap, ap₂, _∙_}
 use mathlib.Core.Bool.{Bool, true, false, cond}
 use mathlib.Core.List.{List, [], _∷_, _++_}
@@ -11,29 +11,32 @@ use lib.ListN.{length, length-append}
 use lib.Pow.{pow-add}
 use borrow.Author.Tests.{eq-eqb, ne-eqb}
 use Rattle.lists.specs.Words.{bytes}
-use Rattle.rules.specs.Writing.{widthOf, placesOf, lastDigits, fractionText, numberText}
+use Rattle.points.specs.Points.{placeOf}
+use Rattle.rules.specs.Writing.{widthOf, placesOf, lastDigits, wholeText, fractionText}
 use Rattle.text.proofs.LastDigits.{digits-length}
 
--- of f millionths
-abbrev pub decimals : ℕ → List ℕ
-decimals f = lastDigits (placesOf f) (f / 10 ^ (6 - placesOf f))
+-- so many decimals of f millionths
+abbrev pub decimalsIn : ℕ → ℕ → List ℕ
+decimalsIn d f = lastDigits d (f / placeOf d)
 
-pub fraction-whole : (f : ℕ) → f ≡ 0 → fractionText f ≡ []
+pub no-decimals : (d f : ℕ) → d ≡ 0 → decimalsIn d f ≡ []
+unfolding lastDigits
+no-decimals d f h = rw h
+
+pub no-fraction : (d f : ℕ) → d ≡ 0 → fractionText d f ≡ []
 unfolding fractionText
-fraction-whole f h = rw (eq-eqb f 0 h)
+no-fraction d f h = rw (eq-eqb d 0 h)
 
-pub fraction-part : (f : ℕ) → (f ≡ 0 → ⊥) → fractionText f ≡ bytes "." ++ decimals f
+pub some-fraction : (d f : ℕ) → (d ≡ 0 → ⊥) → fractionText d f ≡ bytes "." ++ decimalsIn d f
 unfolding fractionText
-fraction-part f h = rw (ne-eqb f 0 h)
+some-fraction d f h = rw (ne-eqb d 0 h)
 
-pub fraction-part-length : (f : ℕ) → (f ≡ 0 → ⊥) → length (fractionText f) ≡ 1 + placesOf f
-fraction-part-length f h = omega (arith, ap length (fraction-part f h), digits-length (placesOf f) (f / 10 ^ (6 - placesOf f)))
+pub some-fraction-length : (d f : ℕ) → (d ≡ 0 → ⊥) → length (fractionText d f) ≡ 1 + d
+some-fraction-length d f h = omega (arith, ap length (some-fraction d f h), digits-length d (f / placeOf d))
 
-pub number-length : (v : ℕ) → length (numberText v) ≡ widthOf (v / 1000000) + length (fractionText (v % 1000000))
-unfolding numberText
-number-length v =
-    length-append (lastDigits (widthOf (v / 1000000)) (v / 1000000)) (fractionText (v % 1000000))
-    ∙ ap (λ (n : ℕ). n + length (fractionText (v % 1000000))) (digits-length (widthOf (v / 1000000)) (v / 1000000))
+-- the digits before the point, and so many decimals
+pub parts-length : (d v : ℕ) → length (wholeText v ++ fractionText d (v % 1000000)) ≡ widthOf (v / 1000000) + length (fractionText d (v % 1000000))
+parts-length d v = omega (arith, length-append (wholeText v) (fractionText d (v % 1000000)), digits-length (widthOf (v / 1000000)) (v / 1000000))
 
 -- ---- the first decimal, and what is left after it, tenfold
 
@@ -52,7 +55,11 @@ one-more false false false true e = (refl, omega arith)
 one-more false false false false true = (refl, omega arith)
 one-more false false false false false = (refl, omega arith)
 
--- of what is left there is one less
+pub no-places : (f : ℕ) → f ≡ 0 → placesOf f ≡ 0
+unfolding placesOf
+no-places f h = rw h
+
+-- of what is left the shortest number has one less
 pub places-turn : (f : ℕ) → 0 < f → f < 1000000 → (placesOf f ≡ suc (placesOf (left f))) × (placesOf (left f) ≤ 5)
 unfolding placesOf
 places-turn f h k =
@@ -86,17 +93,11 @@ digits-up f (suc k) p h =
     let e : suc p + k ≡ suc (p + k) = omega arith in
     ap₂ (λ (d : ℕ) (l : List ℕ). (48 + d) ∷ l) (rw (place f p k, place (left f) (suc p) k, e) (place-up f (p + k) (omega arith))) (digits-up f k p (omega arith))
 
-pub decimals-turn : (f : ℕ) → 0 < f → f < 1000000 → decimals f ≡ (48 + 10 * f / 1000000 % 10) ∷ decimals (left f)
+pub decimals-turn : {n d : ℕ} (f : ℕ) → n ≡ suc d → d ≤ 5 → decimalsIn n f ≡ (48 + 10 * f / 1000000 % 10) ∷ decimalsIn d (left f)
 unfolding lastDigits
-decimals-turn f h k =
-    let t = places-turn f h k in
-    let n : ℕ = placesOf (left f) in
-    let e : 6 - suc n ≡ 5 - n = omega arith in
-    let g : 6 - n ≡ suc (5 - n) = omega arith in
-    let i : 5 - n + n ≡ 5 = omega arith in
+decimals-turn {d = d} f h k =
+    let e : 6 - suc d ≡ 5 - d = omega arith in
+    let g : 6 - d ≡ suc (5 - d) = omega arith in
+    let i : 5 - d + d ≡ 5 = omega arith in
     let j : f / 100000 ≡ 10 * f / 1000000 = omega arith in
-    rw (t .0, e, g) (ap₂ (λ (d : ℕ) (l : List ℕ). (48 + d % 10) ∷ l) (place f (5 - n) n ∙ rw i j) (digits-up f n (5 - n) (omega arith)))
-
-pub decimals-end : (f : ℕ) → f ≤ 0 → decimals f ≡ []
-unfolding placesOf lastDigits
-decimals-end f h = let e : f ≡ 0 = omega arith in rw e
+    rw (h, e, g) (ap₂ (λ (c : ℕ) (l : List ℕ). (48 + c % 10) ∷ l) (place f (5 - d) d ∙ rw i j) (digits-up f d (5 - d) (omega arith)))

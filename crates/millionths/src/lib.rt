@@ -1,10 +1,12 @@
 // Numbers of millionths as text: how long it is, and its bytes, from place `at` on as crate text has it.
 ghost use mathlib.Core.Path.{_≡_};
-ghost use Prim.Native.Nat.{_+_, _%_, _≤_, _<_};
+ghost use Prim.Native.Nat.{ℕ, _+_, _%_, _≤_, _<_, min};
 ghost use lib.ListN.{length};
 ghost use lib.IntN.{natAbs};
-ghost use Rattle.rules.specs.Writing.{lastDigits, widthOf, placesOf, fractionText, numberText, coordinateText};
+ghost use Rattle.rules.specs.Writing.{lastDigits, widthOf, placesOf, fractionText, numberText, radiusText, coordinateText};
+ghost use Rattle.rules.specs.Numbers.{maxPlaces};
 ghost use Rattle.text.specs.Wrote.{Wrote};
+use rules::MAX_PLACES;
 use text::put_byte;
 use text::put_word;
 
@@ -48,6 +50,16 @@ fn places(f: u32) -> usize
     6
 }
 
+// The decimals that a radius is written with: no number has more than six.
+fn radius_places(decimals: u32) -> usize
+    ensures { λ r. ⌜ (r ≡ min decimals maxPlaces) × (r ≤ 6) ⌝ }
+{
+    if decimals < MAX_PLACES {
+        return decimals as usize;
+    }
+    MAX_PLACES as usize
+}
+
 // A coordinate without its sign, which fits 32 bits.
 fn size(x: i32) -> u32
     ensures { λ r. ⌜ r ≡ natAbs x ⌝ }
@@ -57,20 +69,29 @@ fn size(x: i32) -> u32
 
 // ---- lengths
 
-fn fraction_length(f: u32) -> usize
-    ensures { λ r. ⌜ (r ≡ length (fractionText f)) × (r ≤ 7) ⌝ }
+// The point and so many decimals of any number, or nothing for none.
+fn fraction_length(decimals: usize) -> usize
+    requires { ⌜ decimals ≤ maxPlaces ⌝ }
+    ensures { λ r. ⌜ ((f : ℕ) → r ≡ length (fractionText decimals f)) × (r ≤ 7) ⌝ }
 {
-    if f == 0 {
+    if decimals == 0 {
         return 0;
     }
-    1 + places(f)
+    1 + decimals
 }
 
 /// Bytes of a number of millionths as it is written.
 pub fn number_length(v: u32) -> usize
     ensures { λ r. ⌜ (r ≡ length (numberText v)) × (r ≤ 10) ⌝ }
 {
-    width(v / MILLION) + fraction_length(v % MILLION)
+    width(v / MILLION) + fraction_length(places(v % MILLION))
+}
+
+/// Bytes of a radius as it is written, with so many decimals.
+pub fn radius_length(decimals: u32, v: u32) -> usize
+    ensures { λ r. ⌜ (r ≡ length (radiusText decimals v)) × (r ≤ 10) ⌝ }
+{
+    width(v / MILLION) + fraction_length(radius_places(decimals))
 }
 
 /// Bytes of a coordinate as it is written.
@@ -111,7 +132,7 @@ fn put_whole(b: &mut [u8], at: usize, w: u32) -> usize
 // No point for a whole number. The decimals come out first to last, and end where nothing is left.
 fn put_fraction(b: &mut [u8], at: usize, millionths: u32) -> usize
     requires { ⌜ millionths < 1000000 ⌝ }
-    ensures { λ r. ⌜ Wrote (now (b .entry)) at (fractionText millionths) (now (b .exit)) r ⌝ }
+    ensures { λ r. ⌜ Wrote (now (b .entry)) at (fractionText (placesOf millionths) millionths) (now (b .exit)) r ⌝ }
 {
     if millionths == 0 {
         return at;
@@ -126,6 +147,26 @@ fn put_fraction(b: &mut [u8], at: usize, millionths: u32) -> usize
     end
 }
 
+// Just so many decimals, and no point for none.
+fn put_decimals(b: &mut [u8], at: usize, count: usize, millionths: u32) -> usize
+    requires { ⌜ (count ≤ maxPlaces) × (millionths < 1000000) ⌝ }
+    ensures { λ r. ⌜ Wrote (now (b .entry)) at (fractionText count millionths) (now (b .exit)) r ⌝ }
+{
+    if count == 0 {
+        return at;
+    }
+    let mut next = put_byte(b, at, b'.');
+    let mut rest = millionths;
+    let mut left = count;
+    while 0 < left {
+        let tenfold = 10 * rest;
+        next = put_byte(b, next, digit(tenfold / MILLION));
+        rest = tenfold % MILLION;
+        left -= 1;
+    }
+    next
+}
+
 /// A number of millionths: its whole part, and its decimals without trailing zeros.
 pub fn put_number(b: &mut [u8], at: usize, v: u32) -> usize
     ensures { λ r. ⌜ Wrote (now (b .entry)) at (numberText v) (now (b .exit)) r ⌝ }
@@ -134,7 +175,15 @@ pub fn put_number(b: &mut [u8], at: usize, v: u32) -> usize
     put_fraction(b, point, v % MILLION)
 }
 
-/// The same with a minus where negative.
+/// A radius: its whole part, and just so many decimals.
+pub fn put_radius(b: &mut [u8], at: usize, decimals: u32, v: u32) -> usize
+    ensures { λ r. ⌜ Wrote (now (b .entry)) at (radiusText decimals v) (now (b .exit)) r ⌝ }
+{
+    let point = put_whole(b, at, v / MILLION);
+    put_decimals(b, point, radius_places(decimals), v % MILLION)
+}
+
+/// A coordinate: a number with a minus where negative.
 pub fn put_coordinate(b: &mut [u8], at: usize, x: i32) -> usize
     ensures { λ r. ⌜ Wrote (now (b .entry)) at (coordinateText x) (now (b .exit)) r ⌝ }
 {

@@ -11,7 +11,7 @@ use rules::Refusal;
 use rules::out_of_range;
 
 // Most digits after the point.
-const MAX_PLACES: usize = 6;
+const MAX_PLACES: usize = rules::MAX_PLACES as usize;
 
 // The largest coordinate, diameter and radius, in millionths.
 const MAX_NUMBER: u64 = rules::MAX_NUMBER as u64;

@@ -2,7 +2,7 @@
 -- phase before the motion, both before the rest: a test of a command is one fact of the relations.
 use mathlib.Core.Path.{_≡_, refl, sym, _∙_, subst}
 use mathlib.Core.Bool.{Bool, true, false, not, false≢true}
-use Prim.Native.Nat.{ℕ, _*_}
+use Prim.Native.Nat.{ℕ, _+_, _*_}
 use borrow.Author.Tests.{eq-eqb, ne-eqb, eqb-true, eqb-false, lt-ltb, ltb-true, le-leb, leb-true, not-true, not-false}
 use lib.Dec.{eqb, ltb, leb}
 use Rattle.lists.proofs.Choice.{both}
@@ -16,7 +16,7 @@ use Rattle.rules.specs.declared.Next.{Next}
 use Rattle.rules.specs.declared.Next.the-variants.{To, No}
 use Rattle.rules.specs.Refusals.{wrongPhase, wrongMotion, declaredAlready, notDeclared, noToolSelected, impossibleArc}
 use Rattle.tools.specs.Set.{has}
-use Rattle.points.specs.Points.{samePoint, squareOfDistance, fourSquares, isPossible}
+use Rattle.points.specs.Points.{samePoint, squareOfDistance, square, lastUnit, isPossible}
 use Rattle.rules.specs.State.{beforeM48, bareHeader, header, body, over, drill, toolUp, toolDown, noTool, phaseIs, motionIs, isSelected, need, step}
 use Rattle.points.proofs.Same.{same-point-iff}
 use Rattle.rules.specs.Obeys.{Free, Moving, Possible, Takes, comment, m48, metric, inch, declare, percent, g05, g00, select, hit, m15, m16, g01, g02, g03, m30}
@@ -32,18 +32,22 @@ not-so false h = refl
 
 -- ---- arcs
 
+-- the square of the furthest distance
+abbrev furthest : Arc → ℕ
+furthest a = square (2 * a .radius + lastUnit (a .decimals))
+
 possible-read : {s : Point} {a : Arc} → Possible s a → isPossible s a ≡ true
-unfolding isPossible fourSquares
+unfolding isPossible
 possible-read {s} {a} w =
-    rw (not-so (samePoint s (a .to)) (λ e. w .apart (same-point-iff s (a .to) .0 e)), le-leb (squareOfDistance s (a .to)) (4 * (a .radius * a .radius)) (w .near))
+    rw (not-so (samePoint s (a .to)) (λ e. w .apart (same-point-iff s (a .to) .0 e)), le-leb (squareOfDistance s (a .to)) (furthest a) (w .near))
 
 read-possible : (s : Point) (a : Arc) → isPossible s a ≡ true → Possible s a
-unfolding isPossible fourSquares
+unfolding isPossible
 read-possible s a e =
-    let h = both (not (samePoint s (a .to))) (leb (squareOfDistance s (a .to)) (4 * (a .radius * a .radius))) e in
+    let h = both (not (samePoint s (a .to))) (leb (squareOfDistance s (a .to)) (furthest a)) e in
     record {
       apart = λ q. false≢true (sym (not-true (samePoint s (a .to)) (h .0)) ∙ same-point-iff s (a .to) .1 q);
-      near = leb-true (squareOfDistance s (a .to)) (4 * (a .radius * a .radius)) (h .1);
+      near = leb-true (squareOfDistance s (a .to)) (furthest a) (h .1);
     }
 
 -- ---- what may come is taken

@@ -6,6 +6,8 @@ use Rattle.points.proofs.Point.same.Kinds as point-same-kinds
 use Rattle.points.proofs.Point.same.Reads as point-same-reads
 use Rattle.points.proofs.distance.Kinds as distance-kinds
 use Rattle.points.proofs.distance.Reads as distance-reads
+use Rattle.points.proofs.place_of.Kinds as place-of-kinds
+use Rattle.points.proofs.place_of.Reads as place-of-reads
 use Rattle.points.proofs.Arc.is_possible.Kinds as arc-is-possible-kinds
 use Rattle.points.proofs.Arc.is_possible.Reads as arc-is-possible-reads
 use Rattle.tools.proofs.Tools.has.Kinds as tools-has-kinds
@@ -80,10 +82,14 @@ use Rattle.text.proofs.put_signed.Kinds as text-put-signed-kinds
 use Rattle.text.proofs.put_signed.Reads as text-put-signed-reads
 use Rattle.millionths.proofs.put_number.Kinds as millionths-put-number-kinds
 use Rattle.millionths.proofs.put_number.Reads as millionths-put-number-reads
+use Rattle.millionths.proofs.put_radius.Kinds as millionths-put-radius-kinds
+use Rattle.millionths.proofs.put_radius.Reads as millionths-put-radius-reads
 use Rattle.millionths.proofs.put_coordinate.Kinds as millionths-put-coordinate-kinds
 use Rattle.millionths.proofs.put_coordinate.Reads as millionths-put-coordinate-reads
 use Rattle.millionths.proofs.number_length.Kinds as millionths-number-length-kinds
 use Rattle.millionths.proofs.number_length.Reads as millionths-number-length-reads
+use Rattle.millionths.proofs.radius_length.Kinds as millionths-radius-length-kinds
+use Rattle.millionths.proofs.radius_length.Reads as millionths-radius-length-reads
 use Rattle.millionths.proofs.coordinate_length.Kinds as millionths-coordinate-length-kinds
 use Rattle.millionths.proofs.coordinate_length.Reads as millionths-coordinate-length-reads
 use Rattle.spell.proofs.line_length.Kinds as spell-line-length-kinds
@@ -132,6 +138,9 @@ point-same κs a x y e f p q = same p q
 
 pub distance : OneAnswer 0 distance-kinds.ps distance-kinds.r distance-reads.Post
 distance κs a x y e f p q = same (p .0) (q .0)
+
+pub place-of : OneAnswer 0 place-of-kinds.ps place-of-kinds.r place-of-reads.Post
+place-of κs a x y e f p q = same (p .0) (q .0)
 
 pub arc-is-possible : OneAnswer 0 arc-is-possible-kinds.ps arc-is-possible-kinds.r arc-is-possible-reads.Post
 arc-is-possible κs a x y e f p q = same p q
@@ -260,11 +269,17 @@ text-put-signed κs a x y e f p q = (same (p .end) (q .end), same (p .bytes) (q 
 pub millionths-put-number : OneOutcome 1 millionths-put-number-kinds.ps millionths-put-number-kinds.r millionths-put-number-reads.Post (λ κs e. e .0 .now)
 millionths-put-number κs a x y e f p q = (same (p .end) (q .end), same (p .bytes) (q .bytes))
 
+pub millionths-put-radius : OneOutcome 1 millionths-put-radius-kinds.ps millionths-put-radius-kinds.r millionths-put-radius-reads.Post (λ κs e. e .0 .now)
+millionths-put-radius κs a x y e f p q = (same (p .end) (q .end), same (p .bytes) (q .bytes))
+
 pub millionths-put-coordinate : OneOutcome 1 millionths-put-coordinate-kinds.ps millionths-put-coordinate-kinds.r millionths-put-coordinate-reads.Post (λ κs e. e .0 .now)
 millionths-put-coordinate κs a x y e f p q = (same (p .end) (q .end), same (p .bytes) (q .bytes))
 
 pub millionths-number-length : OneAnswer 0 millionths-number-length-kinds.ps millionths-number-length-kinds.r millionths-number-length-reads.Post
 millionths-number-length κs a x y e f p q = same (p .0) (q .0)
+
+pub millionths-radius-length : OneAnswer 0 millionths-radius-length-kinds.ps millionths-radius-length-kinds.r millionths-radius-length-reads.Post
+millionths-radius-length κs a x y e f p q = same (p .0) (q .0)
 
 pub millionths-coordinate-length : OneAnswer 0 millionths-coordinate-length-kinds.ps millionths-coordinate-length-kinds.r millionths-coordinate-length-reads.Post
 millionths-coordinate-length κs a x y e f p q = same (p .0) (q .0)

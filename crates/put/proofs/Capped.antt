@@ -33,7 +33,7 @@ pub signed-large : (n : ℕ) → maxSigned < n → toZ w32 maxSigned ≡ pos (ca
 signed-large n h = ap pos (sym (capped-large n h))
 
 capped-arc : (a : Arc) → ArcOk a → cappedArc a ≡ a
-capped-arc a h = λ i. record { to = a .to; radius = capped-small (a .radius) (omega arith) i }
+capped-arc a h = λ i. record { to = a .to; radius = capped-small (a .radius) (omega arith) i; decimals = capped-small (a .decimals) (omega arith) i }
 
 pub capped-command : (c : Command) → CommandOk c → cappedCommand c ≡ c
 unfolding cappedCommand

@@ -1,3 +1,4 @@
 pub mod Capped
 pub mod Puts
 pub mod PutFound
+pub mod Straight

@@ -17,12 +17,12 @@ use Rattle.rules.specs.declared.Command.{Command}
 use Rattle.rules.specs.declared.Command.the-variants.{Comment, M48, Metric, Inch, Declare, Percent, G05, G00, Select, Hit, M15, M16, G01, G02, G03, M30}
 use Rattle.rules.specs.declared.State.{State}
 use Rattle.rules.specs.declared.Looked.the-variants.{Holds}
-use Rattle.rules.specs.Numbers.{maxNumber, maxTool}
+use Rattle.rules.specs.Numbers.{maxNumber, maxTool, maxPlaces}
 use Rattle.rules.specs.State.{over, inchUnit, toolDown}
 use Rattle.tools.specs.Set.{maxWord}
-use Rattle.rules.specs.Rows.{rowWidth, commandNumbers, stateNumbers, rowNumbers, commandAt, stateAt, lookOf}
+use Rattle.rules.specs.Rows.{rowWidth, rowNumbers, commandAt, stateAt, lookOf}
 use Rattle.rules.specs.Ranges.{StateOk, ArcOk, CommandOk}
-use Rattle.laws.proofs.Rows.{command-length, row-length, command-back, state-back, look-holds}
+use Rattle.laws.proofs.Rows.{row-length, command-back, state-back, look-holds}
 use Rattle.put.specs.PutRow.{maxSigned, capped, cappedArc, cappedCommand, cappedState, cappedNumbers, putRow}
 use Rattle.put.proofs.Capped.{capped-small, capped-large}
 use Rattle.put.proofs.Puts.{put-inside}
@@ -31,14 +31,10 @@ use Rattle.put.proofs.Puts.{put-inside}
 
 module _ (a b : Row Command State) (h : rowNumbers a ≡ rowNumbers b) where
   same-command : a .command ≡ b .command
-  unfolding rowNumbers
-  same-command = sym (command-back (a .command) (stateNumbers (a .state))) ∙ ap commandAt h ∙ command-back (b .command) (stateNumbers (b .state))
+  same-command = sym (command-back (a .command) (a .state)) ∙ ap commandAt h ∙ command-back (b .command) (b .state)
 
   same-state : a .state ≡ b .state
-  unfolding rowNumbers
-  same-state =
-      sym (state-back (commandNumbers (a .command)) (a .state) (command-length (a .command))) ∙ ap stateAt h
-      ∙ state-back (commandNumbers (b .command)) (b .state) (command-length (b .command))
+  same-state = sym (state-back (a .command) (a .state)) ∙ ap stateAt h ∙ state-back (b .command) (b .state)
 
 -- ---- what is in range was not capped
 
@@ -50,7 +46,12 @@ uncapped n hi k h = by (leb n maxSigned) refl
     by false e = absurd (omega (arith, capped-large n (leb-false n maxSigned e)))
 
 uncapped-arc : (a : Arc) → ArcOk (cappedArc a) → cappedArc a ≡ a
-uncapped-arc a h = λ i. record { to = a .to; radius = uncapped (a .radius) maxNumber (omega arith) (h .radius-range .high) i }
+uncapped-arc a h =
+    λ i. record {
+      to = a .to;
+      radius = uncapped (a .radius) maxNumber (omega arith) (h .radius-range .high) i;
+      decimals = uncapped (a .decimals) maxPlaces (omega arith) (h .decimals-range) i;
+    }
 
 uncapped-command : (c : Command) → CommandOk (cappedCommand c) → cappedCommand c ≡ c
 unfolding cappedCommand

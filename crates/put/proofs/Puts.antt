@@ -1,6 +1,6 @@
 -- Numbers put into a table: one after another they are one writing, and a row in range is written as its own numbers.
 use mathlib.Core.Path.{_≡_, refl, sym, ap, _∙_}
-use mathlib.Core.List.{List, _∷_, _++_}
+use mathlib.Core.List.{List, [], _∷_, _++_}
 use Prim.Native.Nat.{ℕ, _+_, _-_, _*_, _/_, _<_, _≤_}
 use native.Mathlib.Omega.{arith}
 use borrow.Author.Tests.{leb-true, le-leb, lt-leb}
@@ -16,9 +16,9 @@ use Rattle.lists.proofs.Put.{put-none, put-put, put-length, put-after, copy-tur
 use Rattle.runs.specs.Machine.{Row}
 use Rattle.rules.specs.declared.Command.{Command}
 use Rattle.rules.specs.declared.State.{State}
-use Rattle.rules.specs.Rows.{rowWidth, commandNumbers, stateNumbers, rowNumbers, tableNumbers, entriesOf}
+use Rattle.rules.specs.Rows.{rowWidth, commandNumbers, decimalsOf, stateNumbers, rowNumbers, tableNumbers, entriesOf}
 use Rattle.rules.specs.Ranges.{StateOk, CommandOk}
-use Rattle.laws.proofs.Rows.{command-length, row-length}
+use Rattle.laws.proofs.Rows.{command-length, state-length, row-length}
 use Rattle.laws.proofs.Entries.{entries-drop}
 use Rattle.put.proofs.Capped.{capped-row}
 use Rattle.points.proofs.Signed.{Signed, read-back}
@@ -85,14 +85,22 @@ module _ (t : List ℤ) (i : ℕ) (c : Command) (s : State) where
       (rw (put-inside (omega arith)) (put-after t (rowWidth * i) (rowWidth * (i + 1)) (cappedNumbers c s) (omega (arith, numbers-length)) (omega arith)))
       ∙ sym (entries-drop n t (i + 1) (omega arith))
 
-  -- the command's numbers, and then the state's
-  pub put-parts : {a b u w : List ℤ} → i < length t / rowWidth → a ≡ commandNumbers (cappedCommand c) → b ≡ stateNumbers (cappedState s)
-      → u ≡ putAt t (rowWidth * i) a → w ≡ putAt u (rowWidth * i + 5) b → w ≡ putRow t i c s
+  -- the command's five numbers, the state's ten, and the decimals
+  pub put-parts : {a b d u v w : List ℤ} → i < length t / rowWidth → a ≡ commandNumbers (cappedCommand c) → b ≡ stateNumbers (cappedState s)
+      → d ≡ pos (decimalsOf (cappedCommand c)) ∷ [] → u ≡ putAt t (rowWidth * i) a → v ≡ putAt u (rowWidth * i + 5) b
+      → w ≡ putAt v (rowWidth * i + 5 + 10) d → w ≡ putRow t i c s
   unfolding cappedNumbers rowNumbers
-  put-parts {a} {b} {u} h ea eb eu ew =
-      let f : rowWidth * i + 5 ≡ rowWidth * i + length a = omega (arith, ap length ea ∙ command-length (cappedCommand c)) in
-      let parts : putAt u (rowWidth * i + 5) b ≡ putAt t (rowWidth * i) (a ++ b) = rw (eu, f) (put-put t (rowWidth * i) a b (omega arith)) in
-      ew ∙ parts ∙ rw (ea, eb) (sym (put-inside (omega arith)))
+  put-parts {a} {b} {d} {u} {v} h ea eb ed eu ev ew =
+      let la : length a ≡ 5 = ap length ea ∙ command-length (cappedCommand c) in
+      let lb : length b ≡ 10 = ap length eb ∙ state-length (cappedState s) in
+      let lu : length u ≡ length t = ap length eu ∙ put-length t (rowWidth * i) a (omega arith) in
+      let f : rowWidth * i + 5 ≡ rowWidth * i + length a = omega arith in
+      let g : rowWidth * i + 5 + 10 ≡ rowWidth * i + 5 + length b = omega arith in
+      let last : putAt v (rowWidth * i + 5 + 10) d ≡ putAt u (rowWidth * i + 5) (b ++ d)
+      = rw (ev, g) (put-put u (rowWidth * i + 5) b d (omega arith)) in
+      let all : putAt u (rowWidth * i + 5) (b ++ d) ≡ putAt t (rowWidth * i) (a ++ (b ++ d))
+      = rw (eu, f) (put-put t (rowWidth * i) a (b ++ d) (omega arith)) in
+      ew ∙ last ∙ all ∙ rw (ea, eb, ed) (sym (put-inside (omega arith)))
 
   module _ (cok : CommandOk c) (sok : StateOk s) (h : rowWidth * i + rowWidth ≤ length t) where
     pub put-row : putRow t i c s ≡ putAt t (rowWidth * i) (rowNumbers (record { command = c; state = s }))

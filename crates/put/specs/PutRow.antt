@@ -22,7 +22,7 @@ unfoldable pub capped : ℕ → ℕ
 capped n = cond (leb n maxSigned) n maxSigned
 
 abbrev pub cappedArc : Arc → Arc
-cappedArc a = record { to = a .to; radius = capped (a .radius) }
+cappedArc a = record { to = a .to; radius = capped (a .radius); decimals = capped (a .decimals) }
 
 unfoldable pub cappedCommand : Command → Command
 cappedCommand Comment = Comment

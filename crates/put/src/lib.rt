@@ -1,6 +1,7 @@
 // Numbers put into a lent table: those of a block, or a row's. The others stay as they were.
 ghost use mathlib.Core.Path.{_≡_};
 ghost use Prim.Native.Nat.{_+_, _≤_};
+ghost use mathlib.Core.List.{[], _∷_};
 ghost use lib.IntN.{pos};
 ghost use lib.ListN.{length};
 ghost use Rattle.lists.specs.Put.{putAt, putIn};
@@ -56,6 +57,17 @@ fn command_numbers(c: Command) -> [i32; 5]
         Command::G02(arc) => five(kind::G02, 0, arc.to, arc.radius),
         Command::G03(arc) => five(kind::G03, 0, arc.to, arc.radius),
         Command::M30 => five(kind::M30, 0, none, 0),
+    }
+}
+
+// The decimals of the command's radius, which stand behind the state.
+fn decimals(c: Command) -> [i32; 1]
+    ensures { λ r. ⌜ r ≡ pos (R.decimalsOf (P.cappedCommand c)) ∷ [] ⌝ }
+{
+    match c {
+        Command::G02(arc) => [signed(arc.decimals)],
+        Command::G03(arc) => [signed(arc.decimals)],
+        _ => [0],
     }
 }
 
@@ -120,6 +132,8 @@ pub fn row(table: &mut [i32], i: usize, command: Command, state: State)
     let at = ROW_WIDTH * i;
     let first = command_numbers(command);
     let second = state_numbers(state);
+    let last = decimals(command);
     copy_in(table, at, &first);
     copy_in(table, at + first.len(), &second);
+    copy_in(table, at + first.len() + second.len(), &last);
 }

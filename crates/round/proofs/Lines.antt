@@ -3,7 +3,7 @@
 use mathlib.Core.Path.{_≡_, refl, sym, ap, _∙_}
 use mathlib.Core.Bool.{true, false, _&&_, false≢true, cond}
 use mathlib.Core.List.{List, [], _∷_, _++_, append-assoc, append-nil}
-use Prim.Native.Nat.{ℕ, zero, suc, _+_, _-_, _/_, _%_, _^_, _<_, _≤_}
+use Prim.Native.Nat.{ℕ, zero, suc, _+_, _-_, _/_, _%_, _^_, _<_, _≤_, min}
 use native.Mathlib.Omega.{arith}
 use native.Mathlib.Nat.{mod-lt}
 use borrow.Author.Tests.{leb-true, le-leb}
@@ -15,21 +15,22 @@ use Rattle.lists.proofs.Choice.{cond-all, both}
 use Rattle.runs.specs.Machine.{yields}
 use Rattle.points.specs.declared.Point.{Point}
 use Rattle.points.specs.declared.Arc.{Arc}
+use Rattle.points.specs.Points.{placeOf}
 use Rattle.rules.specs.declared.Command.{Command}
 use Rattle.rules.specs.declared.Command.the-variants.{Comment, M48, Metric, Inch, Declare, Percent, G05, G00, Select, Hit, M15, M16, G01, G02, G03, M30}
 use Rattle.rules.specs.declared.Revision.{Revision}
-use Rattle.rules.specs.Numbers.{maxLine, maxLines, maxNumber, maxTool, isDigit, digitsOf, Decimal, got, onNumber, unsignedOf, millionths}
+use Rattle.rules.specs.Numbers.{maxLine, maxLines, maxNumber, maxTool, maxPlaces, isDigit, digitsOf, Decimal, onNumber, unsignedOf}
 use Rattle.rules.specs.Lines.{LF, CR, linesOf, isPrintable}
 use Rattle.rules.specs.Kinds.{isComment}
-use Rattle.rules.specs.Commands.{Form, g00, hit, g01, g02, g03, Formed, no-form, atEnd, noSemicolon, commentForm, pointForm, arcForm, toolForm, formOf, says, pointOf, inRange, pointInRange, arcInRange, meaningOf, onForm, commandOf, lineOf}
+use Rattle.rules.specs.Commands.{Form, g00, hit, g01, g02, g03, Formed, no-form, atEnd, noSemicolon, commentForm, pointForm, arcForm, toolForm, formOf, says, pointOf, arcOf, inRange, pointInRange, arcInRange, meaningOf, onForm, commandOf, lineOf}
 use Rattle.rules.specs.Reading.{answerIn, commandIn}
-use Rattle.rules.specs.Writing.{lastDigits, widthOf, placesOf, fractionText, numberText, coordinateText, toolText, pointText, arcText, spelt, lineText, longestLine}
+use Rattle.rules.specs.Writing.{lastDigits, widthOf, fractionText, numberText, radiusText, coordinateText, toolText, pointText, arcText, spelt, lineText, longestLine}
 use Rattle.rules.specs.Ranges.{PointOk, ArcOk, CommandOk}
 use Rattle.rules.proofs.Revisions.{two-digits}
 use Rattle.rules.proofs.Ranges.{tool-passes}
 use Rattle.laws.proofs.Digits.{NoDigit, NoPoint}
 use Rattle.laws.proofs.Lines.{printable-without, no-cr, text-plain, endedLine, lf-line}
-use Rattle.round.proofs.Numbers.{tool-back, width-is, places-is, written, written-millionths, number-back, writtenCoordinate, coordinate-back, written-coordinate, written-is, written-size}
+use Rattle.round.proofs.Numbers.{tool-back, width-is, textWith, writtenWith, arc-places, placesIn, fewest-places, written-millionths, number-back, radius-back, writtenCoordinate, coordinate-back, written-coordinate, written-is, written-size}
 
 -- ---- at most n bytes, all printable
 
@@ -60,16 +61,23 @@ digits-fit (suc k) m =
     let h : d < 10 = mod-lt (m / 10 ^ k) (omega arith) in
     record { short = omega (arith, digits-fit k m .short); printable = rw (le-leb 32 (48 + d) (omega arith), le-leb (48 + d) 126 (omega arith)) (digits-fit k m .printable) }
 
-fraction-fits : (f : ℕ) → Fits 7 (fractionText f)
+fraction-fits : (d f : ℕ) → d ≤ maxPlaces → Fits 7 (fractionText d f)
 unfolding fractionText isPrintable
-fraction-fits f =
-    cond-all (Fits 7) (eqb f 0) (λ _. word 7 [] refl)
-    (λ _. fits-append (word 1 (bytes ".") refl) (fits-more (places-is f .most) (digits-fit (placesOf f) (f / 10 ^ (6 - placesOf f)))))
+fraction-fits d f h =
+    cond-all (Fits 7) (eqb d 0) (λ _. word 7 [] refl) (λ _. fits-append (word 1 (bytes ".") refl) (fits-more h (digits-fit d (f / placeOf d))))
+
+text-fits : (d v : ℕ) → d ≤ maxPlaces → v ≤ maxNumber → Fits 10 (textWith d v)
+text-fits d v k h =
+    fits-append (fits-more (width-is (v / 1000000) (omega arith) .short) (digits-fit (widthOf (v / 1000000)) (v / 1000000)))
+    (fraction-fits d (v % 1000000) k)
 
 pub number-fits : (v : ℕ) → v ≤ maxNumber → Fits 10 (numberText v)
 unfolding numberText
-number-fits v h =
-    fits-append (fits-more (width-is (v / 1000000) (omega arith) .short) (digits-fit (widthOf (v / 1000000)) (v / 1000000))) (fraction-fits (v % 1000000))
+number-fits v h = text-fits (placesIn v) v (fewest-places v .most) h
+
+radius-fits : (d v : ℕ) → v ≤ maxNumber → Fits 10 (radiusText d v)
+unfolding radiusText
+radius-fits d v h = text-fits (min d maxPlaces) v (omega arith) h
 
 pub coordinate-fits : (x : ℤ) → natAbs x ≤ maxNumber → Fits 11 (coordinateText x)
 unfolding coordinateText isPrintable
@@ -84,7 +92,9 @@ point-fits p h =
 
 pub arc-fits : (a : Arc) → ArcOk a → Fits 35 (arcText a)
 unfolding arcText isPrintable
-arc-fits a h = fits-append (point-fits (a .to) (h .to-range)) (fits-append (word 1 (bytes "A") refl) (number-fits (a .radius) (h .radius-range .high)))
+arc-fits a h =
+    fits-append (point-fits (a .to) (h .to-range))
+    (fits-append (word 1 (bytes "A") refl) (radius-fits (a .decimals) (a .radius) (h .radius-range .high)))
 
 -- the longest line without its end
 abbrev longestText : ℕ
@@ -125,10 +135,6 @@ point-form p rest k h e q =
 point-is : (p : Point) → pointOf (writtenCoordinate (p .x)) (writtenCoordinate (p .y)) ≡ p
 point-is p = λ i. record { x = written-is (p .x) i; y = written-is (p .y) i }
 
-number-end : (v : ℕ) → v ≤ maxNumber → unsignedOf (numberText v) ≡ got (written false v) []
-unfolding startsWith
-number-end v h = ap unsignedOf (sym (append-nil (numberText v))) ∙ number-back v [] h tt refl
-
 tool-end : (t : ℕ) → t ≤ maxTool → digitsOf (toolText t) ≡ record { value = t; count = 2; rest = [] }
 tool-end t h = ap digitsOf (sym (append-nil (toolText t))) ∙ tool-back t [] h tt
 
@@ -141,21 +147,22 @@ point-back after p form command m h =
     ∙ rw (point-form p [] (λ x y rest. atEnd rest (form x y)) h tt refl, m (writtenCoordinate (p .x)) (writtenCoordinate (p .y)), written-coordinate (p .x) (h .x-range), written-coordinate (p .y) (h .y-range), point-is p)
 
 arc-back : (after : ℕ → ℕ) (a : Arc) (form : Decimal → Decimal → Decimal → Form) (command : Arc → Command)
-    → ((x y r : Decimal) → meaningOf after (form x y r) ≡ arcInRange after x y r (says (command (record { to = pointOf x y; radius = millionths r }))))
+    → ((x y r : Decimal) → meaningOf after (form x y r) ≡ arcInRange after x y r (says (command (arcOf x y r))))
     → ArcOk a → onForm after (arcForm (arcText a) form) ≡ says (command a)
 unfolding arcForm arcText startsWith isDigit inRange
 arc-back after a form command m h =
+    let places = arc-places a h in
     rw (
-      point-form (a .to) (bytes "A" ++ numberText (a .radius))
+      point-form (a .to) (bytes "A" ++ radiusText (a .decimals) (a .radius))
           (λ x y rest. cond (startsWith rest (bytes "A")) (onNumber (unsignedOf (drop 1 rest)) no-form (λ r rest′. atEnd rest′ (form x y r))) no-form)
           (h .to-range) refl refl,
-      number-end (a .radius) (h .radius-range .high),
-      m (writtenCoordinate (a .to .x)) (writtenCoordinate (a .to .y)) (written false (a .radius)),
+      radius-back (a .decimals) (a .radius) (h .decimals-range) (h .radius-range .high),
+      m (writtenCoordinate (a .to .x)) (writtenCoordinate (a .to .y)) (writtenWith (a .decimals) false (a .radius)),
       written-coordinate (a .to .x) (h .to-range .x-range),
       written-coordinate (a .to .y) (h .to-range .y-range),
-      written-size (a .radius) (h .radius-range .low) (h .radius-range .high),
+      written-size (a .radius) places (h .radius-range .low) (h .radius-range .high),
       point-is (a .to),
-      written-millionths (a .radius) false,
+      written-millionths false (a .radius) places,
     )
 
 declare-back : (rev : Revision) (t d : ℕ) → CommandOk (Declare t d) → commandOf rev (spelt (Declare t d)) ≡ says (Declare t d)
@@ -164,10 +171,10 @@ declare-back rev t d h =
     rw (
       tool-back t (bytes "C" ++ numberText d) (h .0 .high) refl,
       two-digits rev,
-      number-end d (h .1 .high),
+      number-back d (h .1 .high),
       tool-passes t (h .0 .low) (h .0 .high),
-      written-size d (h .1 .low) (h .1 .high),
-      written-millionths d false,
+      written-size d (fewest-places d) (h .1 .low) (h .1 .high),
+      written-millionths false d (fewest-places d),
     )
 
 select-back : (rev : Revision) (t : ℕ) → CommandOk (Select t) → commandOf rev (spelt (Select t)) ≡ says (Select t)

@@ -1,12 +1,11 @@
--- A number that was written reads back. The last k digits of m read as m mod 10 ^ k, by induction on k; a number is its
--- whole units and then as many of its decimals as do not end in zeros, so what is read is v in units of its last decimal.
-use mathlib.Core.Path.{_≡_, refl, sym, ap, ap₂, _∙_}
+-- A number that was written reads back. The last k digits of m read as m mod 10 ^ k, by induction on k; a number with d decimals is its
+-- whole units and then these decimals, so what is read is v in units of the last of them. The shortest number and a radius are such numbers.
+use mathlib.Core.Path.{_≡_, refl, sym, ap, _∙_}
 use mathlib.Core.Bool.{Bool, true, false}
 use mathlib.Core.List.{List, [], _∷_, _++_, append-assoc, append-nil}
-use Prim.Native.Nat.{ℕ, zero, suc, _+_, _-_, _*_, _/_, _%_, _^_, _<_, _≤_}
+use Prim.Native.Nat.{ℕ, zero, suc, _+_, _-_, _*_, _/_, _%_, _^_, _<_, _≤_, min}
 use native.Mathlib.Omega.{arith}
-use native.Mathlib.Nat.{mod-lt, mod-eq-of-lt, mod-one, mul-assoc, add-mul, mul-div-cancel, pow-succ', one-le-pow, div-add-mod', div-lt-iff-lt-mul}
-use native.Mathlib.Decide.{ℕ-discrete}
+use native.Mathlib.Nat.{mod-lt, mod-eq-of-lt, mod-one, mul-assoc, pow-succ', one-le-pow, div-add-mod', div-lt-iff-lt-mul, mul-add-div-right, dvd-mul-left, mod-mod-of-dvd}
 use borrow.Author.Tests.{ltb-true, eqb-true, lt-ltb, le-leb, eq-eqb, ne-eqb}
 use lib.Arith.{mod-mul}
 use lib.Dec.{ltb, eqb}
@@ -14,10 +13,13 @@ use lib.IntN.{ℤ, pos, negsuc, natAbs}
 use lib.Pow.{pow-add}
 use Rattle.lists.specs.Words.{startsWith}
 use Rattle.lists.proofs.Choice.{cond-all}
+use Rattle.points.specs.declared.Arc.{Arc}
+use Rattle.points.specs.Points.{placeOf}
 use Rattle.rules.specs.Numbers.{maxNumber, maxTool, maxPlaces, isDigit, digitsOf, Decimal, got, magnitudeOf, unsignedOf, signedOf, millionths, isCoordinate, coordinateOf, isSize}
+use Rattle.rules.specs.Ranges.{ArcOk}
 use Rattle.rules.proofs.Ranges.{coordinate-passes, size-passes}
 use Rattle.laws.proofs.Digits.{NoDigit, NoPoint, no-digits}
-use Rattle.rules.specs.Writing.{lastDigits, widthOf, placesOf, fractionText, numberText, coordinateText, toolText}
+use Rattle.rules.specs.Writing.{lastDigits, widthOf, placesOf, wholeText, fractionText, numberText, radiusText, coordinateText, toolText}
 
 -- ---- digits
 
@@ -58,12 +60,13 @@ width-is w h =
     cond-all (Width w) _ (width-at w 1 (omega arith) (omega arith))
     (λ _. cond-all (Width w) _ (width-at w 2 (omega arith) (omega arith)) (λ _. width-at w 3 (omega arith) (omega arith) (lt-ltb w 1000 h)))
 
-pub record Places (f d : ℕ) : Type 0 where
-  pub most : d ≤ 6
-  pub exact : f % 10 ^ (6 - d) ≡ 0
+-- v millionths are a whole number of units of the last of d decimals
+pub record Places (v d : ℕ) : Type 0 where
+  pub most : d ≤ maxPlaces
+  pub exact : v % placeOf d ≡ 0
 
-places-at : (f d : ℕ) → d ≤ 6 → eqb (f % 10 ^ (6 - d)) 0 ≡ true → Places f d
-places-at f d h t = record { most = h; exact = eqb-true (f % 10 ^ (6 - d)) 0 t }
+places-at : (f d : ℕ) → d ≤ maxPlaces → eqb (f % placeOf d) 0 ≡ true → Places f d
+places-at f d h t = record { most = h; exact = eqb-true (f % placeOf d) 0 t }
 
 pub places-is : (f : ℕ) → Places f (placesOf f)
 unfolding placesOf
@@ -76,98 +79,104 @@ places-is f =
     (λ _. cond-all (Places f) _ (places-at f 5 (omega arith))
     (λ _. places-at f 6 (omega arith) (eq-eqb (f % 1) 0 (mod-one f))))))))
 
--- ---- v millionths as the decimal that is written for them
+-- ---- v millionths in units of the last of d decimals
 
+module _ (d : ℕ) where
+  pub place-some : 1 ≤ placeOf d
+  place-some = one-le-pow (6 - d) 10 (omega arith)
+
+  module _ (h : d ≤ maxPlaces) where
+    -- a whole unit
+    pub unit-parts : 10 ^ d * placeOf d ≡ 1000000
+    unit-parts = let e : d + (6 - d) ≡ 6 = omega arith in sym (pow-add 10 d (6 - d)) ∙ ap (λ (n : ℕ). 10 ^ n) e
+
+    -- less than one
+    pub decimals-fit : (f : ℕ) → f < 1000000 → f / placeOf d < 10 ^ d
+    decimals-fit f k = div-lt-iff-lt-mul place-some .1 (omega (arith, unit-parts))
+
+    -- whole units and the part below one
+    digits-are : (v : ℕ) → v / 1000000 * 10 ^ d + v % 1000000 / placeOf d ≡ v / placeOf d
+    digits-are v =
+        let w : ℕ = v / 1000000 in
+        let e = mul-assoc w (10 ^ d) (placeOf d) ∙ ap (λ (n : ℕ). w * n) unit-parts in
+        sym (mul-add-div-right place-some (w * 10 ^ d) (v % 1000000)) ∙ ap (λ (n : ℕ). n / placeOf d) (omega (arith, e))
+
+    -- whole units leave nothing over
+    pub part-left : (v : ℕ) → v % 1000000 % placeOf d ≡ v % placeOf d
+    part-left v = rw unit-parts at (mod-mod-of-dvd (placeOf d) v (dvd-mul-left (placeOf d) (10 ^ d)))
+
+-- ---- v millionths written with d decimals: the text, and the decimal that it is
+
+abbrev pub textWith : ℕ → ℕ → List ℕ
+textWith d v = wholeText v ++ fractionText d (v % 1000000)
+
+abbrev pub writtenWith : ℕ → Bool → ℕ → Decimal
+writtenWith d neg v = record { negative = neg; digits = v / placeOf d; places = d }
+
+-- as an arc's radius
+pub arc-places : (a : Arc) → ArcOk a → Places (a .radius) (a .decimals)
+arc-places a h = record { most = h .decimals-range; exact = h .whole-places }
+
+pub radius-text : (d v : ℕ) → d ≤ maxPlaces → radiusText d v ≡ textWith d v
+unfolding radiusText
+radius-text d v h = let e : min d maxPlaces ≡ d = omega arith in rw e
+
+-- and with the fewest
 abbrev pub placesIn : ℕ → ℕ
 placesIn v = placesOf (v % 1000000)
 
+pub fewest-places : (v : ℕ) → Places v (placesIn v)
+fewest-places v = let p = places-is (v % 1000000) in record { most = p .most; exact = sym (part-left (placesIn v) (p .most) v) ∙ p .exact }
+
 abbrev pub written : Bool → ℕ → Decimal
-written neg v = record { negative = neg; digits = v / 10 ^ (6 - placesIn v); places = placesIn v }
+written neg v = writtenWith (placesIn v) neg v
 
--- a unit in parts of d decimals, and such a part in millionths
-pub unit-parts : (d : ℕ) → d ≤ 6 → 10 ^ d * 10 ^ (6 - d) ≡ 1000000
-unit-parts d h = let e : d + (6 - d) ≡ 6 = omega arith in sym (pow-add 10 d (6 - d)) ∙ ap (λ (n : ℕ). 10 ^ n) e
-
--- f millionths, of which d decimals are written, after w whole units
-module _ (f d : ℕ) (hf : f < 1000000) (h : Places f d) where
-  pub decimals-fit : f / 10 ^ (6 - d) < 10 ^ d
-  decimals-fit = div-lt-iff-lt-mul (one-le-pow (6 - d) 10 (omega arith)) .1 (omega (arith, unit-parts d (h .most)))
-
-  joined : (w : ℕ) → (w * 10 ^ d + f / 10 ^ (6 - d)) * 10 ^ (6 - d) ≡ w * 1000000 + f
-  joined w =
-      add-mul (w * 10 ^ d) (f / 10 ^ (6 - d)) (10 ^ (6 - d))
-      ∙ ap₂ _+_ (mul-assoc w (10 ^ d) (10 ^ (6 - d)) ∙ ap (λ (n : ℕ). w * n) (unit-parts d (h .most))) (omega (arith, div-add-mod' f (10 ^ (6 - d)), h .exact))
-
-module _ (v : ℕ) where
-  below : v % 1000000 < 1000000
-  below = mod-lt v (omega arith)
-
-  parts : (v / 1000000 * 10 ^ placesIn v + v % 1000000 / 10 ^ (6 - placesIn v)) * 10 ^ (6 - placesIn v) ≡ v
-  parts = joined (v % 1000000) (placesIn v) below (places-is (v % 1000000)) (v / 1000000) ∙ div-add-mod' v 1000000
-
-  digits-are : v / 1000000 * 10 ^ placesIn v + v % 1000000 / 10 ^ (6 - placesIn v) ≡ v / 10 ^ (6 - placesIn v)
-  digits-are =
-      sym (mul-div-cancel (v / 1000000 * 10 ^ placesIn v + v % 1000000 / 10 ^ (6 - placesIn v)) (one-le-pow (6 - placesIn v) 10 (omega arith)))
-      ∙ ap (λ (n : ℕ). n / 10 ^ (6 - placesIn v)) parts
-
-  pub written-millionths : (neg : Bool) → millionths (written neg v) ≡ v
-  unfolding millionths
-  written-millionths neg = ap (λ (n : ℕ). n * 10 ^ (6 - placesIn v)) (sym digits-are) ∙ parts
-
-  pub written-places : (neg : Bool) → written neg v .places ≤ maxPlaces
-  written-places neg = places-is (v % 1000000) .most
+pub written-millionths : {d : ℕ} (neg : Bool) (v : ℕ) → Places v d → millionths (writtenWith d neg v) ≡ v
+unfolding millionths
+written-millionths {d} neg v h = omega (arith, div-add-mod' v (placeOf d), h .exact)
 
 -- ---- a number, and then what ends it
 
-whole-places : (f : ℕ) → f ≡ 0 → placesOf f ≡ 0
-unfolding placesOf
-whole-places f z = rw z
+magnitude-back : (neg : Bool) (d v : ℕ) (rest : List ℕ) → d ≤ maxPlaces → v ≤ maxNumber → NoDigit rest → NoPoint rest
+    → magnitudeOf neg (textWith d v ++ rest) ≡ got (writtenWith d neg v) rest
+unfolding magnitudeOf fractionText isDigit startsWith
+magnitude-back neg zero v rest h k e p =
+    let wide = width-is (v / 1000000) (omega arith) in
+    let n : ℕ = widthOf (v / 1000000) in
+    rw (
+      append-nil (wholeText v),
+      digits-back n (v / 1000000) rest e,
+      p,
+      ne-eqb n 0 (omega (arith, wide .some)),
+      mod-eq-of-lt (wide .holds),
+    )
+magnitude-back neg (suc d) v rest h k e p =
+    let wide = width-is (v / 1000000) (omega arith) in
+    let n : ℕ = widthOf (v / 1000000) in
+    let m : ℕ = v % 1000000 / placeOf (suc d) in
+    rw (
+      ne-eqb (suc d) 0 (λ z. omega arith),
+      append-assoc (wholeText v) (46 ∷ lastDigits (suc d) m) rest,
+      digits-back n (v / 1000000) (46 ∷ (lastDigits (suc d) m ++ rest)) refl,
+      digits-back (suc d) m rest e,
+      ne-eqb (n + suc d) 0 (λ z. omega arith),
+      mod-eq-of-lt (wide .holds),
+      mod-eq-of-lt (decimals-fit (suc d) h (v % 1000000) (mod-lt v (omega arith))),
+      digits-are (suc d) h v,
+    )
 
-module _ (neg : Bool) (v : ℕ) (rest : List ℕ) (h : v ≤ maxNumber) (e : NoDigit rest) (p : NoPoint rest) where
-  wide : Width (v / 1000000) (widthOf (v / 1000000))
-  wide = width-is (v / 1000000) (omega arith)
+-- ---- without a sign, at the line's end, and with one
 
-  whole-back : v % 1000000 ≡ 0 → magnitudeOf neg (numberText v ++ rest) ≡ got (written neg v) rest
-  unfolding magnitudeOf numberText fractionText
-  whole-back z =
-      rw (
-        eq-eqb (v % 1000000) 0 z,
-        append-nil (lastDigits (widthOf (v / 1000000)) (v / 1000000)),
-        digits-back (widthOf (v / 1000000)) (v / 1000000) rest e,
-        p,
-        ne-eqb (widthOf (v / 1000000)) 0 (omega (arith, wide .some)),
-        mod-eq-of-lt (wide .holds),
-        whole-places (v % 1000000) z,
-      )
+unsigned-back : (d v : ℕ) → d ≤ maxPlaces → v ≤ maxNumber → unsignedOf (textWith d v) ≡ got (writtenWith d false v) []
+unfolding unsignedOf startsWith
+unsigned-back d v h k = ap unsignedOf (sym (append-nil (textWith d v))) ∙ magnitude-back false d v [] h k tt refl
 
-  decimals-back : (v % 1000000 ≡ 0 → ⊥) → magnitudeOf neg (numberText v ++ rest) ≡ got (written neg v) rest
-  unfolding magnitudeOf numberText fractionText isDigit startsWith
-  decimals-back z =
-      let n : ℕ = widthOf (v / 1000000) in
-      let m : ℕ = v % 1000000 / 10 ^ (6 - placesIn v) in
-      rw (
-        ne-eqb (v % 1000000) 0 z,
-        append-assoc (lastDigits n (v / 1000000)) (46 ∷ lastDigits (placesIn v) m) rest,
-        digits-back n (v / 1000000) (46 ∷ (lastDigits (placesIn v) m ++ rest)) refl,
-        digits-back (placesIn v) m rest e,
-        ne-eqb (n + placesIn v) 0 (omega (arith, wide .some)),
-        mod-eq-of-lt (wide .holds),
-        mod-eq-of-lt (decimals-fit (v % 1000000) (placesIn v) (below v) (places-is (v % 1000000))),
-        digits-are v,
-      )
+pub number-back : (v : ℕ) → v ≤ maxNumber → unsignedOf (numberText v) ≡ got (written false v) []
+unfolding numberText
+number-back v k = unsigned-back (placesIn v) v (fewest-places v .most) k
 
-  pub magnitude-back : magnitudeOf neg (numberText v ++ rest) ≡ got (written neg v) rest
-  magnitude-back = go (ℕ-discrete (v % 1000000) 0)
-    where
-      go : Dec (v % 1000000 ≡ 0) → magnitudeOf neg (numberText v ++ rest) ≡ got (written neg v) rest
-      go (yes z) = whole-back z
-      go (no z) = decimals-back z
-
--- ---- without a sign and with one
-
-pub number-back : (v : ℕ) (rest : List ℕ) → v ≤ maxNumber → NoDigit rest → NoPoint rest → unsignedOf (numberText v ++ rest) ≡ got (written false v) rest
-unfolding unsignedOf
-number-back v rest = magnitude-back false v rest
+pub radius-back : (d v : ℕ) → d ≤ maxPlaces → v ≤ maxNumber → unsignedOf (radiusText d v) ≡ got (writtenWith d false v) []
+radius-back d v h k = ap unsignedOf (radius-text d v h) ∙ unsigned-back d v h k
 
 -- a digit is no sign
 no-sign : (b : ℕ) (k m : ℕ) (l : List ℕ) → b < 48 → 0 < k → startsWith (lastDigits k m ++ l) (b ∷ []) ≡ false
@@ -178,22 +187,25 @@ no-sign b (suc k) m l h g = rw (ne-eqb (48 + m / 10 ^ k % 10) b (omega arith))
 number-no-sign : (b v : ℕ) (rest : List ℕ) → b < 48 → v ≤ maxNumber → startsWith (numberText v ++ rest) (b ∷ []) ≡ false
 unfolding numberText
 number-no-sign b v rest h g =
-    rw (append-assoc (lastDigits (widthOf (v / 1000000)) (v / 1000000)) (fractionText (v % 1000000)) rest)
-    (no-sign b (widthOf (v / 1000000)) (v / 1000000) (fractionText (v % 1000000) ++ rest) h (width-is (v / 1000000) (omega arith) .some))
+    rw (append-assoc (wholeText v) (fractionText (placesIn v) (v % 1000000)) rest)
+    (no-sign b (widthOf (v / 1000000)) (v / 1000000) (fractionText (placesIn v) (v % 1000000) ++ rest) h (width-is (v / 1000000) (omega arith) .some))
 
 abbrev pub writtenCoordinate : ℤ → Decimal
 writtenCoordinate (pos v) = written false v
 writtenCoordinate (negsuc v) = written true (suc v)
 
-pub coordinate-back : (x : ℤ) (rest : List ℕ) → natAbs x ≤ maxNumber → NoDigit rest → NoPoint rest → signedOf (coordinateText x ++ rest) ≡ got (writtenCoordinate x) rest
-unfolding signedOf coordinateText startsWith
-coordinate-back (pos v) rest h e p = rw (number-no-sign 45 v rest (omega arith) h, number-no-sign 43 v rest (omega arith) h) (magnitude-back false v rest h e p)
-coordinate-back (negsuc v) rest h e p = magnitude-back true (suc v) rest h e p
+pub coordinate-back : (x : ℤ) (rest : List ℕ) → natAbs x ≤ maxNumber → NoDigit rest → NoPoint rest
+    → signedOf (coordinateText x ++ rest) ≡ got (writtenCoordinate x) rest
+unfolding signedOf coordinateText numberText startsWith
+coordinate-back (pos v) rest h e p =
+    rw (number-no-sign 45 v rest (omega arith) h, number-no-sign 43 v rest (omega arith) h)
+    (magnitude-back false (placesIn v) v rest (fewest-places v .most) h e p)
+coordinate-back (negsuc v) rest h e p = magnitude-back true (placesIn (suc v)) (suc v) rest (fewest-places (suc v) .most) h e p
 
 -- ---- ranges
 
 in-range : (neg : Bool) (v : ℕ) → v ≤ maxNumber → isCoordinate (written neg v) ≡ true
-in-range neg v h = coordinate-passes (written neg v) (written-places v neg) (omega (arith, written-millionths v neg))
+in-range neg v h = coordinate-passes (written neg v) (fewest-places v .most) (omega (arith, written-millionths neg v (fewest-places v)))
 
 pub written-coordinate : (x : ℤ) → natAbs x ≤ maxNumber → isCoordinate (writtenCoordinate x) ≡ true
 written-coordinate (pos v) h = in-range false v h
@@ -201,9 +213,8 @@ written-coordinate (negsuc v) h = in-range true (suc v) h
 
 pub written-is : (x : ℤ) → coordinateOf (writtenCoordinate x) ≡ x
 unfolding coordinateOf
-written-is (pos v) = ap pos (written-millionths v false)
-written-is (negsuc v) = rw (written-millionths (suc v) true)
+written-is (pos v) = ap pos (written-millionths false v (fewest-places v))
+written-is (negsuc v) = rw (written-millionths true (suc v) (fewest-places (suc v)))
 
-pub written-size : (v : ℕ) → 1 ≤ v → v ≤ maxNumber → isSize (written false v) ≡ true
-written-size v g h =
-    size-passes (written false v) (written-places v false) (omega (arith, written-millionths v false)) (omega (arith, written-millionths v false))
+pub written-size : {d : ℕ} (v : ℕ) → Places v d → 1 ≤ v → v ≤ maxNumber → isSize (writtenWith d false v) ≡ true
+written-size {d} v h g k = let e = written-millionths false v h in size-passes (writtenWith d false v) (h .most) (omega arith) (omega arith)

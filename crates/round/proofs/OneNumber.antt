@@ -1,22 +1,23 @@
--- A number has one text. So many digits make a number in one way only; with no spare zero before or behind them the number
--- itself says how many they are; and / and % by a million tell its whole units and its decimals apart.
+-- A number has one text with so many decimals: so many digits make a number in one way only, with no spare zero before them the number
+-- itself says how many they are, and / and % by a million tell units and decimals apart. Without trailing zeros the decimals are the fewest.
 use mathlib.Core.Path.{_≡_, refl, sym, ap, ap₂, subst, subst₂, _∙_}
 use mathlib.Core.Bool.{true, false}
 use mathlib.Core.List.{List, [], _∷_, _++_, append-nil}
 use Prim.Native.Nat.{ℕ, zero, suc, _+_, _-_, _*_, _/_, _%_, _^_, _<_, _≤_}
 use native.Mathlib.Omega.{arith}
-use native.Mathlib.Nat.{mod-lt, mod-eq-of-lt, mod-one, mul-assoc, mul-div-cancel, suc-mul, pow-suc, pow-succ', one-le-pow, pow-le-pow-right, le-mul-of-pos-right, mul-lt-mul-of-pos-right, div-add-mod'}
+use native.Mathlib.Nat.{mod-lt, mod-eq-of-lt, mod-one, mul-assoc, mul-div-cancel, suc-mul, pow-suc, pow-succ', pow-le-pow-right, le-mul-of-pos-right, mul-lt-mul-of-pos-right, div-add-mod'}
 use native.Mathlib.Decide.{decLt}
 use borrow.Author.Tests.{ltb-true, ltb-false, eqb-true, eqb-false, eq-eqb, ne-eqb}
 use lib.Arith.{digits-lt, digits-div, digits-mod}
 use lib.Dec.{ltb, eqb}
 use Rattle.lists.specs.Words.{bytes}
 use Rattle.lists.proofs.Choice.{cond-all}
-use Rattle.rules.specs.Numbers.{maxNumber}
+use Rattle.points.specs.Points.{placeOf}
+use Rattle.rules.specs.Numbers.{maxNumber, maxPlaces}
 use Rattle.rules.specs.Spelling.{Digits, no-digit, digit}
-use Rattle.rules.specs.Writing.{lastDigits, widthOf, placesOf, fractionText, numberText}
-use Rattle.rules.specs.Written.{NoSpareZero, alone, first, NoTrailingZero, last, more, WritesNumber, whole, point}
-use Rattle.round.proofs.Numbers.{value-more, Width, width-is, Places, places-is, unit-parts, decimals-fit}
+use Rattle.rules.specs.Writing.{lastDigits, widthOf, placesOf, wholeText, fractionText, numberText, radiusText}
+use Rattle.rules.specs.Written.{NoSpareZero, alone, first, NoTrailingZero, last, more, WritesNumber, WritesRadius, whole, point}
+use Rattle.round.proofs.Numbers.{value-more, Width, width-is, Places, places-is, place-some, unit-parts, decimals-fit, part-left, textWith, radius-text, placesIn, fewest-places}
 
 -- ---- digits
 
@@ -106,87 +107,109 @@ no-trailing-zero zero m h z = absurd (omega arith)
 no-trailing-zero (suc zero) m h z = last (λ (e : 48 + m / 1 % 10 ≡ 48). z (omega arith))
 no-trailing-zero (suc (suc k)) m h z = more (no-trailing-zero (suc k) m (omega arith) z)
 
--- d decimals of f millionths: at least one, and the last isn't 0
-record Shown (f d : ℕ) : Type 0 where
-  some : 0 < d
-  ends : f / 10 ^ (6 - d) % 10 ≡ 0 → ⊥
+-- the last of d decimals, if any, isn't 0
+abbrev Ends : ℕ → ℕ → Type 0
+Ends f d = 0 < d → f / placeOf d % 10 ≡ 0 → ⊥
 
-shown-at : (f d : ℕ) → 0 < d → eqb (f % 10 ^ (6 - d)) 0 ≡ true → eqb (f % 10 ^ suc (6 - d)) 0 ≡ false → Shown f d
-shown-at f d h t u =
-    let p : ℕ = 10 ^ (6 - d) in
-    record {
-      some = h;
-      ends = λ e. eqb-false (f % 10 ^ suc (6 - d)) 0 u
-          (sym (value-more (6 - d) f) ∙ ap (λ (x : ℕ). x * p + f % p) e ∙ omega (arith, eqb-true (f % p) 0 t));
-    }
+ends-at : (f d : ℕ) → eqb (f % placeOf d) 0 ≡ true → eqb (f % 10 ^ suc (6 - d)) 0 ≡ false → Ends f d
+ends-at f d t u h e =
+    let p : ℕ = placeOf d in
+    eqb-false (f % 10 ^ suc (6 - d)) 0 u (sym (value-more (6 - d) f) ∙ ap (λ (x : ℕ). x * p + f % p) e ∙ omega (arith, eqb-true (f % p) 0 t))
 
-places-shown : (f : ℕ) → (f % 1000000 ≡ 0 → ⊥) → Shown f (placesOf f)
+places-end : (f : ℕ) → Ends f (placesOf f)
 unfolding placesOf
-places-shown f z =
-    cond-all (Shown f) _ (λ t. absurd (z (eqb-true (f % 1000000) 0 t)))
-    (λ u. cond-all (Shown f) _ (λ t. shown-at f 1 (omega arith) t u)
-    (λ u. cond-all (Shown f) _ (λ t. shown-at f 2 (omega arith) t u)
-    (λ u. cond-all (Shown f) _ (λ t. shown-at f 3 (omega arith) t u)
-    (λ u. cond-all (Shown f) _ (λ t. shown-at f 4 (omega arith) t u)
-    (λ u. cond-all (Shown f) _ (λ t. shown-at f 5 (omega arith) t u)
-    (λ u. shown-at f 6 (omega arith) (eq-eqb (f % 1) 0 (mod-one f)) u))))))
+places-end f =
+    cond-all (Ends f) _ (λ t h e. omega arith)
+    (λ u. cond-all (Ends f) _ (λ t. ends-at f 1 t u)
+    (λ u. cond-all (Ends f) _ (λ t. ends-at f 2 t u)
+    (λ u. cond-all (Ends f) _ (λ t. ends-at f 3 t u)
+    (λ u. cond-all (Ends f) _ (λ t. ends-at f 4 t u)
+    (λ u. cond-all (Ends f) _ (λ t. ends-at f 5 t u)
+    (λ u. ends-at f 6 (eq-eqb (f % 1) 0 (mod-one f)) u))))))
 
-abbrev decimals : ℕ → ℕ
-decimals f = f / 10 ^ (6 - placesOf f)
+-- ---- so many decimals
 
-abbrev decimalsText : ℕ → List ℕ
-decimalsText f = lastDigits (placesOf f) (decimals f)
+-- m in units of the last of j decimals, after n whole units
+module _ {fs : List ℕ} {j m : ℕ} (u : Digits fs j m) (most : j ≤ maxPlaces) where
+  part-below : m * placeOf j < 1000000
+  part-below = omega (arith, mul-lt-mul-of-pos-right (digits-below u) (place-some j), unit-parts j most)
 
--- some millionths, less than 1 unit
-module _ (f : ℕ) (h : f < 1000000) (z : f ≡ 0 → ⊥) where
-  places : Places f (placesOf f)
-  places = places-is f
+  units-of : (n : ℕ) → (n * 1000000 + m * placeOf j) / 1000000 ≡ n
+  units-of n = digits-div n part-below
 
-  shown : Shown f (placesOf f)
-  shown = places-shown f (λ e. z (omega arith))
+  part-of : (n : ℕ) → (n * 1000000 + m * placeOf j) % 1000000 ≡ m * placeOf j
+  part-of n = digits-mod n part-below
 
-  decimals-are : decimals f * 10 ^ (6 - placesOf f) ≡ f
-  decimals-are = omega (arith, div-add-mod' f (10 ^ (6 - placesOf f)), places .exact)
+text-allowed : (d v : ℕ) → Places v d → v ≤ maxNumber → WritesRadius (textWith d v) v d
+unfolding fractionText
+text-allowed zero v p h =
+    let few : v / 1000000 < 1000 = omega arith in
+    subst₂ (λ (x : List ℕ) (n : ℕ). WritesRadius x n 0) (sym (append-nil (wholeText v))) (omega (arith, p .exact))
+    (whole (units-digits _ few) (units-begin _ few))
+text-allowed (suc d) v p h =
+    let few : v / 1000000 < 1000 = omega arith in
+    let f : ℕ = v % 1000000 in
+    let m : ℕ = f / placeOf (suc d) in
+    let e : v / 1000000 * 1000000 + m * placeOf (suc d) ≡ v = omega (arith, div-add-mod' f (placeOf (suc d)), part-left (suc d) (p .most) v, p .exact) in
+    let digits = digits-allowed (suc d) m (decimals-fit (suc d) (p .most) f (mod-lt v (omega arith))) in
+    rw (ne-eqb (suc d) 0 (λ z. omega arith))
+    (subst (λ (n : ℕ). WritesRadius (wholeText v ++ (bytes "." ++ lastDigits (suc d) m)) n (suc d)) e
+    (point (units-digits _ few) (units-begin _ few) digits (omega arith) (p .most)))
 
-  decimals-digits : Digits (decimalsText f) (placesOf f) (decimals f)
-  decimals-digits = digits-allowed (placesOf f) (decimals f) (decimals-fit f (placesOf f) h places)
+text-only : {b : List ℕ} {v d : ℕ} → v ≤ maxNumber → WritesRadius b v d → b ≡ textWith d v
+unfolding fractionText
+text-only h (whole {n = n} w s) =
+    let e : n * 1000000 / 1000000 ≡ n = omega arith in
+    rw (e, append-nil (unitsText n)) (units-only n (omega arith) w s)
+text-only h (point {n = n} {j = j} {m = m} w s u some most) =
+    rw (units-of u most n, part-of u most n, ne-eqb j 0 (omega arith), mul-div-cancel m (place-some j))
+    (ap₂ (λ (x y : List ℕ). x ++ (bytes "." ++ y)) (units-only n (omega arith) w s) (digits-only u))
 
-  decimals-end : NoTrailingZero (decimalsText f)
-  decimals-end = no-trailing-zero (placesOf f) (decimals f) (shown .some) (shown .ends)
+few-places : {b : List ℕ} {v d : ℕ} → WritesRadius b v d → d ≤ maxPlaces
+few-places (whole _ _) = omega arith
+few-places (point _ _ _ _ most) = most
 
-  decimals-only : {fs : List ℕ} {j m : ℕ} → Digits fs j m → NoTrailingZero fs → j ≤ 6 → m * 10 ^ (6 - j) ≡ f → fs ≡ decimalsText f
-  decimals-only {j = j} {m = m} w s b e =
-      let a : 6 - j ≡ 6 - placesOf f = same-zeros (6 - j) (6 - placesOf f) m (decimals f) (last-digit w s) (shown .ends) (e ∙ sym decimals-are) in
-      let c : j ≡ placesOf f = omega (arith, places .most) in
-      let v : m ≡ decimals f = sym (mul-div-cancel m (one-le-pow (6 - j) 10 (omega arith))) ∙ ap₂ (λ (x y : ℕ). x / 10 ^ y) e a in
-      digits-only w ∙ ap₂ lastDigits c v
+pub radius-allowed : (d v : ℕ) → Places v d → v ≤ maxNumber → WritesRadius (radiusText d v) v d
+radius-allowed d v p h = rw (radius-text d v (p .most)) (text-allowed d v p h)
 
--- ---- numbers
+pub radius-only : {b : List ℕ} {v d : ℕ} → v ≤ maxNumber → WritesRadius b v d → b ≡ radiusText d v
+radius-only {v = v} {d = d} h w = text-only h w ∙ sym (radius-text d v (few-places w))
+
+-- ---- a number without trailing zeros is one with the fewest decimals
+
+some-decimal : {fs : List ℕ} {j m : ℕ} → Digits fs j m → NoTrailingZero fs → 0 < j
+some-decimal (digit _ _) t = omega arith
+
+same-places : {fs : List ℕ} {j m : ℕ} → Digits fs j m → NoTrailingZero fs → j ≤ maxPlaces → j ≡ placesOf (m * placeOf j)
+same-places {j = j} {m = m} u t most = go (placesOf f) (places-is f) (places-end f)
+  where
+    f : ℕ
+    f = m * placeOf j
+
+    go : (d : ℕ) → Places f d → Ends f d → j ≡ d
+    go zero p e = absurd (last-digit u t (omega (arith, p .exact, part-below u most, le-mul-of-pos-right m (place-some j))))
+    go (suc d) p e =
+        let w = div-add-mod' f (placeOf (suc d)) in
+        let same = same-zeros (6 - j) (6 - suc d) m (f / placeOf (suc d)) (last-digit u t) (e (omega arith)) (omega (arith, p .exact)) in
+        omega (arith, p .most)
+
+writes-fewest : {b : List ℕ} {v : ℕ} → WritesNumber b v → WritesRadius b v (placesIn v)
+unfolding placesOf
+writes-fewest (whole {n = n} w s) = let e : n * 1000000 % 1000000 ≡ 0 = omega arith in rw e (whole w s)
+writes-fewest (point {n = n} w s u t most) =
+    subst (WritesRadius _ _) (same-places u t most ∙ ap placesOf (sym (part-of u most n))) (point w s u (some-decimal u t) most)
+
+writes-number : {b : List ℕ} {v d : ℕ} → d ≡ placesIn v → WritesRadius b v d → WritesNumber b v
+writes-number e (whole w s) = whole w s
+writes-number e (point {n = n} {j = j} {m = m} w s u some most) =
+    let f : ℕ = m * placeOf j in
+    let ends = subst (Ends f) (sym (e ∙ ap placesOf (part-of u most n))) (places-end f) some in
+    point w s u (subst NoTrailingZero (sym (digits-only u)) (no-trailing-zero j m some (rw (mul-div-cancel m (place-some j)) at ends))) most
 
 pub number-allowed : (v : ℕ) → v ≤ maxNumber → WritesNumber (numberText v) v
-unfolding numberText fractionText
-number-allowed v h =
-    let w : ℕ = v / 1000000 in
-    let f : ℕ = v % 1000000 in
-    let few : w < 1000 = omega arith in
-    let below : f < 1000000 = omega arith in
-    cond-all (λ (x : List ℕ). WritesNumber (unitsText w ++ x) v) (eqb f 0)
-    (λ t. subst₂ WritesNumber (sym (append-nil (unitsText w))) (omega (arith, eqb-true f 0 t)) (whole (units-digits w few) (units-begin w few)))
-    (λ t. let z = eqb-false f 0 t in
-    subst (WritesNumber (unitsText w ++ (bytes "." ++ decimalsText f))) (omega (arith, decimals-are f below z))
-    (point (units-digits w few) (units-begin w few) (decimals-digits f below z) (decimals-end f below z) (places-is f .most)))
+unfolding numberText
+number-allowed v h = writes-number refl (text-allowed (placesIn v) v (fewest-places v) h)
 
 pub number-only : {b : List ℕ} {v : ℕ} → v ≤ maxNumber → WritesNumber b v → b ≡ numberText v
-unfolding numberText fractionText
-number-only h (whole {n = n} w s) =
-    let p : n * 1000000 / 1000000 ≡ n = omega arith in
-    let q : n * 1000000 % 1000000 ≡ 0 = omega arith in
-    rw (p, q, append-nil (unitsText n)) (units-only n (omega arith) w s)
-number-only h (point {n = n} {j = j} {m = m} w s u t most) =
-    let f : ℕ = m * 10 ^ (6 - j) in
-    let some : 1 ≤ 10 ^ (6 - j) = one-le-pow (6 - j) 10 (omega arith) in
-    let below : f < 1000000 = omega (arith, mul-lt-mul-of-pos-right (digits-below u) some, unit-parts j most) in
-    let z : f ≡ 0 → ⊥ = λ e. last-digit u t (omega (arith, le-mul-of-pos-right m some)) in
-    let p : (n * 1000000 + f) / 1000000 ≡ n = omega arith in
-    let q : (n * 1000000 + f) % 1000000 ≡ f = omega arith in
-    rw (p, q, ne-eqb f 0 z) (ap₂ (λ (x y : List ℕ). x ++ (bytes "." ++ y)) (units-only n (omega arith) w s) (decimals-only f below z u t most refl))
+unfolding numberText
+number-only h w = text-only h (writes-fewest w)

@@ -16,7 +16,8 @@ use Rattle.rules.specs.Written as W
 use Rattle.rules.specs.Written.{WritesCoordinate, WritesTool, WritesPoint, WritesArc, WritesLine, WritesRows}
 use Rattle.rules.specs.Ranges.{PointOk, ArcOk, CommandOk}
 use Rattle.laws.proofs.InRange.{RowsOk}
-use Rattle.round.proofs.OneNumber.{digits-allowed, digits-only, number-allowed, number-only}
+use Rattle.round.proofs.Numbers.{arc-places}
+use Rattle.round.proofs.OneNumber.{digits-allowed, digits-only, radius-allowed, radius-only, number-allowed, number-only}
 
 -- ---- coordinates, tools, points, arcs
 
@@ -49,11 +50,11 @@ point-only h (W.xy u v) =
 
 arc-allowed : (a : Arc) → ArcOk a → WritesArc (arcText a) a
 unfolding arcText
-arc-allowed a h = W.xya (point-allowed (a .to) (h .to-range)) (number-allowed (a .radius) (h .radius-range .high))
+arc-allowed a h = W.xya (point-allowed (a .to) (h .to-range)) (radius-allowed (a .decimals) (a .radius) (arc-places a h) (h .radius-range .high))
 
 arc-only : {b : List ℕ} {a : Arc} → ArcOk a → WritesArc b a → b ≡ arcText a
 unfolding arcText
-arc-only h (W.xya u v) = ap₂ (λ (b c : List ℕ). b ++ (bytes "A" ++ c)) (point-only (h .to-range) u) (number-only (h .radius-range .high) v)
+arc-only h (W.xya u v) = ap₂ (λ (b c : List ℕ). b ++ (bytes "A" ++ c)) (point-only (h .to-range) u) (radius-only (h .radius-range .high) v)
 
 -- ---- lines
 

@@ -11,9 +11,11 @@ ghost use Rattle.row.specs.Parts as P;
 ghost use Rattle.row.specs.Row as S;
 use points::Arc;
 use points::Point;
+use points::place_of;
 use rules::Command;
 use rules::Looked;
 use rules::MAX_NUMBER;
+use rules::MAX_PLACES;
 use rules::MAX_TOOL;
 use rules::ROW_WIDTH;
 use rules::State;
@@ -23,7 +25,8 @@ use rules::phase;
 use rules::unit;
 use tools::Tools;
 
-// The places of a row's numbers: the command's five, and the ten of the state after it. A point takes two, the words four.
+// The places of a row's numbers: the command's five, the ten of the state after it, and last the decimals of the command's radius. A point
+// takes two, the words four.
 const KIND: usize = 0;
 
 const TOOL: usize = 1;
@@ -43,6 +46,8 @@ const SELECTED: usize = 8;
 const AT: usize = 9;
 
 const WORDS: usize = 11;
+
+const DECIMALS: usize = 15;
 
 // The largest number of 25 bits.
 const MAX_WORD: u32 = 33554431;
@@ -120,13 +125,13 @@ fn carries_point(kind: u32) -> bool
         || (kind == kind::HIT || (kind == kind::G01 || (kind == kind::G02 || kind == kind::G03)))
 }
 
-fn carries_size(kind: u32) -> bool
-    ensures { λ r. ⌜ r ≡ Kinds.carriesSize kind ⌝ }
+fn carries_radius(kind: u32) -> bool
+    ensures { λ r. ⌜ r ≡ Kinds.carriesRadius kind ⌝ }
 {
-    kind == kind::DECLARE || (kind == kind::G02 || kind == kind::G03)
+    kind == kind::G02 || kind == kind::G03
 }
 
-// ---- the command's five numbers: in range where the kind carries them, else 0
+// ---- the command's six numbers: in range where the kind carries them, else 0
 
 fn legal_tool(a: &[i32], kind: u32) -> bool
     requires { ⌜ length (now a) ≡ R.rowWidth ⌝ }
@@ -148,11 +153,34 @@ fn legal_point(a: &[i32], kind: u32) -> bool
     zeros(a, TO)
 }
 
+// A radius, and its decimals: at most six, of whose last place it is a multiple.
+fn legal_radius(a: &[i32]) -> bool
+    requires { ⌜ length (now a) ≡ R.rowWidth ⌝ }
+    ensures { λ r. ⌜ r ≡ P.legalRadius (now (a .entry)) ⌝ }
+{
+    if !within(a, SIZE, 1, MAX_NUMBER) {
+        return false;
+    }
+    if !within(a, DECIMALS, 0, MAX_PLACES) {
+        return false;
+    }
+    let radius = natural(a, SIZE);
+    let decimals = natural(a, DECIMALS);
+    radius % place_of(decimals) == 0
+}
+
+// A radius with its decimals, a diameter, or neither.
 fn legal_size(a: &[i32], kind: u32) -> bool
     requires { ⌜ length (now a) ≡ R.rowWidth ⌝ }
-    ensures { λ r. ⌜ r ≡ R.legalSize kind (R.field (now (a .entry)) 4) ⌝ }
+    ensures { λ r. ⌜ r ≡ P.legalSizes kind (now (a .entry)) ⌝ }
 {
-    if carries_size(kind) {
+    if carries_radius(kind) {
+        return legal_radius(a);
+    }
+    if !within(a, DECIMALS, 0, 0) {
+        return false;
+    }
+    if kind == kind::DECLARE {
         return within(a, SIZE, 1, MAX_NUMBER);
     }
     within(a, SIZE, 0, 0)
@@ -175,8 +203,8 @@ fn legal_command(a: &[i32]) -> bool
     legal_size(a, kind)
 }
 
-fn command_of(kind: u32, tool: u32, to: Point, size: u32) -> Command
-    ensures { λ r. ⌜ r ≡ R.commandFrom kind tool to size ⌝ }
+fn command_of(kind: u32, tool: u32, to: Point, size: u32, decimals: u32) -> Command
+    ensures { λ r. ⌜ r ≡ R.commandFrom kind tool to size decimals ⌝ }
 {
     match kind {
         kind::COMMENT => Command::Comment,
@@ -195,10 +223,12 @@ fn command_of(kind: u32, tool: u32, to: Point, size: u32) -> Command
         kind::G02 => Command::G02(Arc {
             to: to,
             radius: size,
+            decimals: decimals,
         }),
         kind::G03 => Command::G03(Arc {
             to: to,
             radius: size,
+            decimals: decimals,
         }),
         _ => Command::M30,
     }
@@ -209,7 +239,13 @@ fn command_at(a: &[i32]) -> Command
     ensures { λ r. ⌜ r ≡ R.commandAt (now (a .entry)) ⌝ }
 {
     let to = point_at(a, TO);
-    command_of(natural(a, KIND), natural(a, TOOL), to, natural(a, SIZE))
+    command_of(
+        natural(a, KIND),
+        natural(a, TOOL),
+        to,
+        natural(a, SIZE),
+        natural(a, DECIMALS),
+    )
 }
 
 // ---- the state's ten numbers

@@ -1,6 +1,6 @@
 -- Document 01, "Command kinds": which line has which form, and which command a form means. The form of the whole line
 -- is decided before any range. By document 02's #102 the form of a declaration depends on the revision, and no other does; by its #106
--- a number out of range is refused in its column.
+-- a number out of range is refused in its column; by its #104 an arc holds the decimals that are written in its radius.
 use mathlib.Core.Bool.{Bool, true, false, _&&_, not, cond}
 use mathlib.Core.List.{List, [], _∷_}
 use Prim.Native.Nat.{ℕ, suc, _+_}
@@ -11,6 +11,7 @@ use Rattle.lists.specs.Words.{bytes, startsWith}
 use Rattle.rules.specs.declared.Command.{Command}
 use Rattle.rules.specs.declared.Command.the-variants.{Comment, M48, Metric, Inch, Declare, Percent, G05, G00, Select, Hit, M15, M16, G01, G02, G03, M30}
 use Rattle.points.specs.declared.Point.{Point}
+use Rattle.points.specs.declared.Arc.{Arc}
 use Rattle.rules.specs.declared.Revision.{Revision}
 use Rattle.rules.specs.declared.Revision.the-variants.{Rev2019, Rev2021}
 use Rattle.rules.specs.declared.Refusal.{Refusal}
@@ -138,6 +139,9 @@ saysNo e = record { refusal = e; command = Comment }
 abbrev pub pointOf : Decimal → Decimal → Point
 pointOf x y = record { x = coordinateOf x; y = coordinateOf y }
 
+abbrev pub arcOf : Decimal → Decimal → Decimal → Arc
+arcOf x y r = record { to = pointOf x y; radius = millionths r; decimals = r .places }
+
 -- a number in column c, in range or not, and what is answered where it is
 unfoldable pub inRange : Bool → ℕ → LineAnswer → LineAnswer
 inRange true c a = a
@@ -164,8 +168,8 @@ meaningOf after (hit x y) = pointInRange after x y (says (Hit (pointOf x y)))
 meaningOf after m15 = says M15
 meaningOf after m16 = says M16
 meaningOf after (g01 x y) = pointInRange after x y (says (G01 (pointOf x y)))
-meaningOf after (g02 x y r) = arcInRange after x y r (says (G02 (record { to = pointOf x y; radius = millionths r })))
-meaningOf after (g03 x y r) = arcInRange after x y r (says (G03 (record { to = pointOf x y; radius = millionths r })))
+meaningOf after (g02 x y r) = arcInRange after x y r (says (G02 (arcOf x y r)))
+meaningOf after (g03 x y r) = arcInRange after x y r (says (G03 (arcOf x y r)))
 meaningOf after m30 = says M30
 
 abbrev pub onForm : (ℕ → ℕ) → Formed → LineAnswer

@@ -76,12 +76,15 @@ kindOf M30 = m30
 abbrev pub isComment : Command → Bool
 isComment c = eqb (kindOf c) comment
 
--- kinds that carry a tool number, a point, a diameter or radius
+-- kinds that carry a tool number, a point, a radius, a diameter or radius
 abbrev pub carriesTool : ℕ → Bool
 carriesTool k = eqb k declare || eqb k select
 
 abbrev pub carriesPoint : ℕ → Bool
 carriesPoint k = eqb k g00 || (eqb k hit || (eqb k g01 || (eqb k g02 || eqb k g03)))
 
+abbrev pub carriesRadius : ℕ → Bool
+carriesRadius k = eqb k g02 || eqb k g03
+
 abbrev pub carriesSize : ℕ → Bool
-carriesSize k = eqb k declare || (eqb k g02 || eqb k g03)
+carriesSize k = eqb k declare || carriesRadius k

@@ -3,7 +3,7 @@
 use mathlib.Core.Bool.{true, false}
 use mathlib.Core.Path.{_≡_}
 use mathlib.Core.List.{List}
-use Prim.Native.Nat.{ℕ, _*_, _<_, _≤_}
+use Prim.Native.Nat.{ℕ, _+_, _*_, _<_, _≤_}
 use lib.ListN.{length}
 use Rattle.runs.specs.Machine.{commandsOf, lastOf, Follows}
 use Rattle.points.specs.declared.Point.{Point}
@@ -14,7 +14,7 @@ use Rattle.rules.specs.declared.State.{State}
 use Rattle.rules.specs.declared.Revision.{Revision}
 use Rattle.rules.specs.Numbers.{maxFile, maxLines}
 use Rattle.tools.specs.Set.{has, insert}
-use Rattle.points.specs.Points.{origin, squareOfDistance}
+use Rattle.points.specs.Points.{origin, squareOfDistance, square, lastUnit}
 use Rattle.rules.specs.State.{beforeM48, bareHeader, header, body, over, metricUnit, inchUnit, drill, toolUp, toolDown, noTool, start, inPhase, inUnit, inMotion, withTool, goneTo, withTools}
 use Rattle.rules.specs.Reading.{Rows}
 use Rattle.rules.specs.Spelling.{SpellsFile}
@@ -29,10 +29,11 @@ pub record Moving (m : ℕ) (s : State) : Type 0 where
   pub in-body : s .phase ≡ body
   pub motion : s .motion ≡ m
 
--- an arc's ends differ, and are at most two radii apart
+-- document 02, #104: an arc's ends differ, and the square of their distance is at most that of 2 r + u, u being one unit of the radius's
+-- last written place
 pub record Possible (s : Point) (a : Arc) : Type 0 where
   pub apart : s ≡ a .to → ⊥
-  pub near : squareOfDistance s (a .to) ≤ 4 * (a .radius * a .radius)
+  pub near : squareOfDistance s (a .to) ≤ square (2 * a .radius + lastUnit (a .decimals))
 
 -- a command may come in a state, and leaves one
 pub data Takes : State → Command → State → Type 0 where

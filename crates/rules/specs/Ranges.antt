@@ -1,13 +1,15 @@
 -- For contracts of private functions and for laws; no promise rests on it. The ranges that the numbers of a state and of a
 -- command have in a row that passes its test.
-use Prim.Native.Nat.{ℕ, _≤_}
+use mathlib.Core.Path.{_≡_}
+use Prim.Native.Nat.{ℕ, _%_, _≤_}
 use lib.IntN.{natAbs}
 use Rattle.points.specs.declared.Point.{Point}
 use Rattle.points.specs.declared.Arc.{Arc}
+use Rattle.points.specs.Points.{placeOf}
 use Rattle.rules.specs.declared.State.{State}
 use Rattle.rules.specs.declared.Command.{Command}
 use Rattle.rules.specs.declared.Command.the-variants.{Comment, M48, Metric, Inch, Declare, Percent, G05, G00, Select, Hit, M15, M16, G01, G02, G03, M30}
-use Rattle.rules.specs.Numbers.{maxNumber, maxTool}
+use Rattle.rules.specs.Numbers.{maxNumber, maxTool, maxPlaces}
 use Rattle.rules.specs.State.{over, inchUnit, toolDown}
 use Rattle.tools.specs.Ranges.{ToolsOk}
 
@@ -30,6 +32,8 @@ pub record NumberOk (lo hi n : ℕ) : Type 0 where
 pub record ArcOk (a : Arc) : Type 0 where
   pub to-range : PointOk (a .to)
   pub radius-range : NumberOk 1 maxNumber (a .radius)
+  pub decimals-range : a .decimals ≤ maxPlaces
+  pub whole-places : a .radius % placeOf (a .decimals) ≡ 0
 
 abbrev pub CommandOk : Command → Type 0
 CommandOk Comment = Unit {0}

@@ -1,4 +1,5 @@
--- Document 01, "A row": its numbers, which of them a row may have, and when a table is good.
+-- Document 01, "A row": its numbers, which of them a row may have, and when a table is good. By document 02's #104 a row has a
+-- sixteenth number, the decimals written in the radius. It is one of the command's, and stands last.
 use mathlib.Core.Path.{_≡_}
 use mathlib.Core.Bool.{Bool, true, false, cond, _&&_}
 use mathlib.Core.List.{List, [], _∷_, _++_}
@@ -9,20 +10,21 @@ use lib.ListN.{length, getD, take, drop}
 use Rattle.runs.specs.Machine as M
 use Rattle.runs.specs.Machine.{Entry, holds, bad, allHold, lastOf, Follows, StepBy}
 use Rattle.points.specs.declared.Point.{Point}
+use Rattle.points.specs.Points.{placeOf}
 use Rattle.rules.specs.declared.Command.{Command}
 use Rattle.rules.specs.declared.Command.the-variants.{Comment, M48, Metric, Inch, Declare, Percent, G05, G00, Select, Hit, M15, M16, G01, G02, G03, M30}
 use Rattle.rules.specs.declared.State.{State}
 use Rattle.rules.specs.declared.Looked.{Looked}
 use Rattle.rules.specs.declared.Looked.the-variants.{Holds, Bad}
-use Rattle.rules.specs.Numbers.{maxLines, maxNumber, maxTool}
-use Rattle.rules.specs.Kinds.{kindOf, carriesTool, carriesPoint, carriesSize}
+use Rattle.rules.specs.Numbers.{maxLines, maxNumber, maxTool, maxPlaces}
+use Rattle.rules.specs.Kinds.{kindOf, carriesTool, carriesPoint, carriesRadius, carriesSize}
 use Rattle.rules.specs.Kinds as Kinds
 use Rattle.rules.specs.State.{over, inchUnit, toolDown, start, taken, hasEnded}
 use Rattle.tools.specs.Set.{maxWord}
 
 -- how many numbers a row has
 abbrev pub rowWidth : ℕ
-rowWidth = 15
+rowWidth = 16
 
 -- ---- the numbers of a row
 
@@ -49,14 +51,34 @@ commandNumbers (G02 a) = fiveOf (kindOf (G02 a)) 0 (a .to .x) (a .to .y) (a .rad
 commandNumbers (G03 a) = fiveOf (kindOf (G03 a)) 0 (a .to .x) (a .to .y) (a .radius)
 commandNumbers M30 = fiveOf (kindOf M30) 0 (pos 0) (pos 0) 0
 
+-- the decimals written in the radius
+unfoldable pub decimalsOf : Command → ℕ
+decimalsOf Comment = 0
+decimalsOf M48 = 0
+decimalsOf Metric = 0
+decimalsOf Inch = 0
+decimalsOf (Declare t d) = 0
+decimalsOf Percent = 0
+decimalsOf G05 = 0
+decimalsOf (G00 p) = 0
+decimalsOf (Select t) = 0
+decimalsOf (Hit p) = 0
+decimalsOf M15 = 0
+decimalsOf M16 = 0
+decimalsOf (G01 p) = 0
+decimalsOf (G02 a) = a .decimals
+decimalsOf (G03 a) = a .decimals
+decimalsOf M30 = 0
+
 -- phase, unit, motion, selected tool, point, and the four words of the declared set
 unfoldable pub stateNumbers : State → List ℤ
 stateNumbers s =
     pos (s .phase) ∷ pos (s .unit) ∷ pos (s .motion) ∷ pos (s .tool) ∷ s .at .x ∷ s .at .y
     ∷ pos (s .tools .a) ∷ pos (s .tools .b) ∷ pos (s .tools .c) ∷ pos (s .tools .d) ∷ []
 
+-- the command's five, the state's ten, and the decimals
 unfoldable pub rowNumbers : M.Row Command State → List ℤ
-rowNumbers r = commandNumbers (r .command) ++ stateNumbers (r .state)
+rowNumbers r = commandNumbers (r .command) ++ (stateNumbers (r .state) ++ (pos (decimalsOf (r .command)) ∷ []))
 
 -- rows one after another
 unfoldable pub tableNumbers : List (M.Row Command State) → List ℤ
@@ -88,6 +110,10 @@ legalPoint k x y = cond (carriesPoint k) (isCoord x && isCoord y) (isZero x && i
 unfoldable pub legalSize : ℕ → ℤ → Bool
 legalSize k d = cond (carriesSize k) (within 1 maxNumber d) (isZero d)
 
+-- at most six decimals, of whose last place the radius is a multiple
+unfoldable pub legalDecimals : ℕ → ℤ → ℤ → Bool
+legalDecimals k r d = cond (carriesRadius k) (within 0 maxPlaces d && eqb (natAbs r % placeOf (natAbs d)) 0) (isZero d)
+
 -- number j of a row's numbers
 abbrev pub field : List ℤ → ℕ → ℤ
 field a j = getD a j (pos 0)
@@ -99,7 +125,8 @@ unfoldable pub legalCommand : List ℤ → Bool
 legalCommand a =
     within 0 Kinds.m30 (field a 0)
     && (legalTool (fieldN a 0) (field a 1)
-    && (legalPoint (fieldN a 0) (field a 2) (field a 3) && legalSize (fieldN a 0) (field a 4)))
+    && (legalPoint (fieldN a 0) (field a 2) (field a 3)
+    && (legalSize (fieldN a 0) (field a 4) && legalDecimals (fieldN a 0) (field a 4) (field a 15))))
 
 -- the first word of the declared set never has tool 0's bit
 unfoldable pub isEven : ℤ → Bool
@@ -120,8 +147,8 @@ rowTest a = legalCommand a && legalState a
 
 -- ---- the row that such numbers are
 
-unfoldable pub commandFrom : ℕ → ℕ → Point → ℕ → Command
-commandFrom k t p d =
+unfoldable pub commandFrom : ℕ → ℕ → Point → ℕ → ℕ → Command
+commandFrom k t p d e =
     cond (eqb k Kinds.comment) Comment
     (cond (eqb k Kinds.m48) M48
     (cond (eqb k Kinds.metric) Metric
@@ -135,12 +162,12 @@ commandFrom k t p d =
     (cond (eqb k Kinds.m15) M15
     (cond (eqb k Kinds.m16) M16
     (cond (eqb k Kinds.g01) (G01 p)
-    (cond (eqb k Kinds.g02) (G02 (record { to = p; radius = d }))
-    (cond (eqb k Kinds.g03) (G03 (record { to = p; radius = d }))
+    (cond (eqb k Kinds.g02) (G02 (record { to = p; radius = d; decimals = e }))
+    (cond (eqb k Kinds.g03) (G03 (record { to = p; radius = d; decimals = e }))
     M30))))))))))))))
 
 unfoldable pub commandAt : List ℤ → Command
-commandAt a = commandFrom (fieldN a 0) (fieldN a 1) (record { x = field a 2; y = field a 3 }) (fieldN a 4)
+commandAt a = commandFrom (fieldN a 0) (fieldN a 1) (record { x = field a 2; y = field a 3 }) (fieldN a 4) (fieldN a 15)
 
 unfoldable pub stateAt : List ℤ → State
 stateAt a = record {

@@ -95,8 +95,10 @@ pub data Means : Form → Command → Type 0 where
   m15-means : Means m15 M15
   m16-means : Means m16 M16
   g01-means : {a b : Decimal} {x y : ℤ} → Coordinate a x → Coordinate b y → Means (g01 a b) (G01 (record { x = x; y = y }))
-  g02-means : {a b c : Decimal} {x y : ℤ} {n : ℕ} → Coordinate a x → Coordinate b y → Size c n → Means (g02 a b c) (G02 (record { to = record { x = x; y = y }; radius = n }))
-  g03-means : {a b c : Decimal} {x y : ℤ} {n : ℕ} → Coordinate a x → Coordinate b y → Size c n → Means (g03 a b c) (G03 (record { to = record { x = x; y = y }; radius = n }))
+  g02-means : {a b c : Decimal} {x y : ℤ} {n : ℕ} → Coordinate a x → Coordinate b y → Size c n
+      → Means (g02 a b c) (G02 (record { to = record { x = x; y = y }; radius = n; decimals = c .places }))
+  g03-means : {a b c : Decimal} {x y : ℤ} {n : ℕ} → Coordinate a x → Coordinate b y → Size c n
+      → Means (g03 a b c) (G03 (record { to = record { x = x; y = y }; radius = n; decimals = c .places }))
   m30-means : Means m30 M30
 
 -- ---- lines and files

@@ -1,7 +1,7 @@
 -- Document 01, "Writing", and "The answers", write: the text of a table, and the lent bytes afterwards.
 use mathlib.Core.Bool.{cond}
 use mathlib.Core.List.{List, [], _∷_, _++_}
-use Prim.Native.Nat.{ℕ, zero, suc, _+_, _-_, _/_, _%_, _^_}
+use Prim.Native.Nat.{ℕ, zero, suc, _+_, _/_, _%_, _^_, min}
 use Prim.Native.Char.{code}
 use lib.Dec.{leb, ltb, eqb}
 use lib.IntN.{ℤ, pos, negsuc}
@@ -11,6 +11,7 @@ use Rattle.lists.specs.Words.{bytes}
 use Rattle.runs.specs.Machine.{Verdict, refused, onVerdict, Entry, follow}
 use Rattle.points.specs.declared.Point.{Point}
 use Rattle.points.specs.declared.Arc.{Arc}
+use Rattle.points.specs.Points.{placeOf}
 use Rattle.rules.specs.declared.Command.{Command}
 use Rattle.rules.specs.declared.Command.the-variants.{Comment, M48, Metric, Inch, Declare, Percent, G05, G00, Select, Hit, M15, M16, G01, G02, G03, M30}
 use Rattle.rules.specs.declared.State.{State}
@@ -18,6 +19,7 @@ use Rattle.rules.specs.declared.Refusal.{Refusal}
 use Rattle.rules.specs.declared.Answer.{Answer}
 use Rattle.rules.specs.declared.Answer.the-variants.{Done, Refused}
 use Rattle.rules.specs.Refusals.{badTable, noRoom}
+use Rattle.rules.specs.Numbers.{maxPlaces}
 use Rattle.rules.specs.Lines.{LF}
 use Rattle.rules.specs.Kinds.{isComment}
 use Rattle.rules.specs.State.{start, taken, hasEnded, sameState}
@@ -41,12 +43,21 @@ placesOf f =
     cond (eqb (f % 1000000) 0) 0 (cond (eqb (f % 100000) 0) 1 (cond (eqb (f % 10000) 0) 2
     (cond (eqb (f % 1000) 0) 3 (cond (eqb (f % 100) 0) 4 (cond (eqb (f % 10) 0) 5 6)))))
 
--- no point for a whole number
-unfoldable pub fractionText : ℕ → List ℕ
-fractionText f = cond (eqb f 0) [] (bytes "." ++ lastDigits (placesOf f) (f / 10 ^ (6 - placesOf f)))
+-- the digits before the point
+abbrev pub wholeText : ℕ → List ℕ
+wholeText v = lastDigits (widthOf (v / 1000000)) (v / 1000000)
 
+-- so many decimals of f millionths, and no point for none
+unfoldable pub fractionText : ℕ → ℕ → List ℕ
+fractionText decimals f = cond (eqb decimals 0) [] (bytes "." ++ lastDigits decimals (f / placeOf decimals))
+
+-- no trailing zeros, and no point for a whole number
 unfoldable pub numberText : ℕ → List ℕ
-numberText v = lastDigits (widthOf (v / 1000000)) (v / 1000000) ++ fractionText (v % 1000000)
+numberText v = wholeText v ++ fractionText (placesOf (v % 1000000)) (v % 1000000)
+
+-- a radius: just the decimals that it was written with (document 02, #104), and no number has more than six
+unfoldable pub radiusText : ℕ → ℕ → List ℕ
+radiusText decimals v = wholeText v ++ fractionText (min decimals maxPlaces) (v % 1000000)
 
 -- minus where negative, no plus
 unfoldable pub coordinateText : ℤ → List ℕ
@@ -63,7 +74,7 @@ unfoldable pub pointText : Point → List ℕ
 pointText p = bytes "X" ++ (coordinateText (p .x) ++ (bytes "Y" ++ coordinateText (p .y)))
 
 unfoldable pub arcText : Arc → List ℕ
-arcText a = pointText (a .to) ++ (bytes "A" ++ numberText (a .radius))
+arcText a = pointText (a .to) ++ (bytes "A" ++ radiusText (a .decimals) (a .radius))
 
 -- a command's line without its end; a comment's is as short as can be
 unfoldable pub spelt : Command → List ℕ

@@ -1,7 +1,7 @@
--- Document 01, "Writing", once more as a relation: which bytes write which number, which command, which rows. What the
--- writer writes is the one text that this allows (one-spelling).
+-- Document 01, "Writing", once more as a relation: which bytes write which number, which command, which rows. A radius is written by
+-- document 02's #104. What the writer writes is the one text that this allows (one-spelling).
 use mathlib.Core.List.{List, [], _∷_, _++_}
-use Prim.Native.Nat.{ℕ, suc, _+_, _-_, _*_, _^_, _≤_}
+use Prim.Native.Nat.{ℕ, suc, _+_, _-_, _*_, _^_, _<_, _≤_}
 use Prim.Native.Char.{code}
 use mathlib.Core.Path.{_≡_}
 use lib.IntN.{ℤ, pos, negsuc}
@@ -33,6 +33,12 @@ pub data WritesNumber : List ℕ → ℕ → Type 0 where
   point : {ds fs : List ℕ} {k n j m : ℕ} → Digits ds k n → NoSpareZero ds → Digits fs j m → NoTrailingZero fs → j ≤ maxPlaces
       → WritesNumber (ds ++ (bytes "." ++ fs)) (n * 10 ^ maxPlaces + m * 10 ^ (maxPlaces - j))
 
+-- a radius of millionths with just so many decimals: with none there is no point
+pub data WritesRadius : List ℕ → ℕ → ℕ → Type 0 where
+  whole : {ds : List ℕ} {k n : ℕ} → Digits ds k n → NoSpareZero ds → WritesRadius ds (n * 10 ^ maxPlaces) 0
+  point : {ds fs : List ℕ} {k n j m : ℕ} → Digits ds k n → NoSpareZero ds → Digits fs j m → 0 < j → j ≤ maxPlaces
+      → WritesRadius (ds ++ (bytes "." ++ fs)) (n * 10 ^ maxPlaces + m * 10 ^ (maxPlaces - j)) j
+
 -- minus where negative, no plus
 pub data WritesCoordinate : List ℕ → ℤ → Type 0 where
   plain : {b : List ℕ} {v : ℕ} → WritesNumber b v → WritesCoordinate b (pos v)
@@ -49,7 +55,7 @@ pub data WritesPoint : List ℕ → Point → Type 0 where
       → WritesPoint (bytes "X" ++ (a ++ (bytes "Y" ++ b))) p
 
 pub data WritesArc : List ℕ → Arc → Type 0 where
-  xya : {b c : List ℕ} {a : Arc} → WritesPoint b (a .to) → WritesNumber c (a .radius) → WritesArc (b ++ (bytes "A" ++ c)) a
+  xya : {b c : List ℕ} {a : Arc} → WritesPoint b (a .to) → WritesRadius c (a .radius) (a .decimals) → WritesArc (b ++ (bytes "A" ++ c)) a
 
 -- a line without its end
 pub data WritesCommand : List ℕ → Command → Type 0 where

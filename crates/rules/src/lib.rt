@@ -20,10 +20,12 @@ pub const MAX_LINES: usize = 1000;
 pub const MAX_LINE: usize = 256;
 /// The largest coordinate, diameter and radius, in millionths.
 pub const MAX_NUMBER: u32 = 999999999;
+/// Most digits after the point.
+pub const MAX_PLACES: u32 = 6;
 /// The largest tool number.
 pub const MAX_TOOL: u32 = 99;
 /// Lent numbers of a row.
-pub const ROW_WIDTH: usize = 15;
+pub const ROW_WIDTH: usize = 16;
 /// Lent numbers of the longest table.
 pub const TABLE_ROOM: usize = ROW_WIDTH * MAX_LINES;
 

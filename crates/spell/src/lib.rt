@@ -12,6 +12,8 @@ use millionths::coordinate_length;
 use millionths::number_length;
 use millionths::put_coordinate;
 use millionths::put_number;
+use millionths::put_radius;
+use millionths::radius_length;
 use points::Arc;
 use points::Point;
 use rules::Command;
@@ -31,7 +33,7 @@ fn arc_length(a: Arc) -> usize
     ensures { λ r. ⌜ (r ≡ length (arcText a)) × (r ≤ 35) ⌝ }
 {
     let to = a.to;
-    point_length(to) + 1 + number_length(a.radius)
+    point_length(to) + 1 + radius_length(a.decimals, a.radius)
 }
 
 /// How many bytes a command's line has, its LF counted. A comment has none.
@@ -83,7 +85,7 @@ fn put_arc(b: &mut [u8], at: usize, a: Arc) -> usize
     let to = a.to;
     let to_end = put_point(b, at, to);
     let radius = put_byte(b, to_end, b'A');
-    put_number(b, radius, a.radius)
+    put_radius(b, radius, a.decimals, a.radius)
 }
 
 fn put_declaration(b: &mut [u8], at: usize, t: u32, d: u32) -> usize

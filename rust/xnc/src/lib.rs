@@ -2,7 +2,8 @@
 //!
 //! Each function lends slices to the library and hands back an [`Answer`]:
 //! number 0 with a count on success, else the refusal's number, line and column,
-//! with everything lent left as it was.
+//! with everything lent left as it was. A table has [`ROW_WIDTH`] numbers for each
+//! line.
 //!
 //! A column says which byte of the line is refused. It counts from 1; 0 means
 //! none. Refusals 4 and 7 of [`read`] and [`edit`] have one, from 1 to 256: for 4
@@ -12,7 +13,7 @@
 //!
 //! ```no_run
 //! let file = b"M48\nMETRIC\nT01C0.5\n%\nG05\nT1\nX2Y-3.5\nM30\n";
-//! let mut table = [0; 15 * 8];
+//! let mut table = [0; xnc::ROW_WIDTH * 8];
 //! let rows = xnc::read(file, xnc::Revision::Rev2021, &mut table).result()? as usize;
 //! let mut hole = [0; 7];
 //! if xnc::hole(&table, rows, 7, &mut hole).result()? == 1 {
@@ -58,6 +59,15 @@ mod raw {
         ) -> u64;
     }
 }
+
+/// Numbers in a table's row, one row a line: kind, tool, x, y, diameter or radius;
+/// the state after the line (phase, unit, motion, selected tool, point x, point y,
+/// four words of the declared tools); and the decimals written in the radius.
+///
+/// Kind, tool, x, y, size and decimals are the command's own numbers, each 0 where
+/// its kind has none. Only an arc has decimals, 0 to 6: they say how far its radius
+/// reaches, and the writer gives it just as many.
+pub const ROW_WIDTH: usize = 16;
 
 /// The revision of XNC by whose rule lines are read: 2019 also takes a
 /// declaration with one digit, as `T1C0.6`. All else is the same by both.
@@ -123,7 +133,7 @@ impl std::error::Error for Refusal {}
 // the ones lent for writing are borrowed mutably, so no two of them overlap.
 // The library keeps no pointer.
 
-/// Reads `file` into `table`, fifteen numbers a line. Counts the lines.
+/// Reads `file` into `table`, [`ROW_WIDTH`] numbers a line. Counts the lines.
 pub fn read(file: &[u8], revision: Revision, table: &mut [i32]) -> Answer {
     let revision = revision as u32;
     Answer::unpack(unsafe {

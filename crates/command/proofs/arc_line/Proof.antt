@@ -5,7 +5,7 @@ use native.Mathlib.Omega.{arith}
 use borrow.Author.Tests.{not-false}
 use Rattle.rules.specs.Commands.{arcForm, says}
 use Rattle.number.proofs.Runs.{stands-within}
-use Rattle.command.proofs.Points.{pair-none, arc-no-a, arc-no-radius, arc-goes-on, arc-ends}
+use Rattle.command.proofs.Points.{pair-none, arc-no-a, arc-no-radius, arc-goes-on, arc-ends, size-places}
 use borrow.Author.Needs.{needs}
 use Rattle.command.proofs.arc_line.Statement.{statement}
 use Rattle.command.proofs.arc_line.Tie as tie
@@ -75,9 +75,12 @@ returns-6 c =
     (c .before .before .before .before .before .before .to .given .1)
     (c .before .before .before .before .size .ensures) (c .before .before .refusal2 .given .1)
 
+cast-t26 : tie.Need-cast-t26
+cast-t26 c = omega (arith, size-places _ _ (c .before .before .before .before .size .ensures) (c .before .before .radius .given .1))
+
 returns-7 : tie.Need-returns-7
 returns-7 c =
-    let b = c .before .before .before .before .before .before .before .before .before .before in
+    let b = c .before .before .before .before .before .before .before .before .before .before .before in
     let d = b .before .before .before .before .before in
     let f = d .before .before .before .before .before .before .before in
     let a = f .before .before .args in
@@ -85,9 +88,9 @@ returns-7 c =
     ∙ arc-ends (a .s .now) (a .at) (f .pair-at .ensures) (d .before .before .before .before .before .p .given .1) (a .kind) (d .before .before .stands .ensures)
     (d .before .if1 .left)
     (d .unsigned .ensures) (b .before .before .before .a .given .1) (b .if2 .left)
-    (c .before .before .before .before .before .before .before .before .before .place .ensures)
-    (c .before .before .before .before .before .before .before .to .given .1)
-    (c .before .before .before .before .before .size .ensures) (c .before .before .before .radius .given .1)
+    (c .before .before .before .before .before .before .before .before .before .before .place .ensures)
+    (c .before .before .before .before .before .before .before .before .to .given .1)
+    (c .before .before .before .before .before .before .size .ensures) (c .before .before .before .before .radius .given .1)
 
 pub arc-line-spec : {M : Type 1} → statement M
 arc-line-spec =
@@ -117,6 +120,7 @@ arc-line-spec =
     (λ c. search needs)
     (λ c κs. search needs)
     (λ c. search needs)
+    cast-t26
     (λ c κs. search needs)
     (λ c κs. search needs)
     returns-5

@@ -1,17 +1,17 @@
--- No byte for a whole number, else the point and its decimals.
+-- No byte for no decimals, else the point and the decimals.
 use native.Mathlib.Omega.{arith}
-use mathlib.Core.Path.{ap}
+use mathlib.Core.Path.{sym, ap}
 use lib.ListN.{length}
-use Rattle.millionths.proofs.Numbers.{fraction-whole, fraction-part-length}
+use Rattle.millionths.proofs.Numbers.{no-fraction, some-fraction-length}
 use borrow.Author.Needs.{needs}
 use Rattle.millionths.proofs.fraction_length.Statement.{statement}
 use Rattle.millionths.proofs.fraction_length.Tie as tie
 
 returns : tie.Need-returns
-returns c = omega (arith, ap length (fraction-whole _ (c .if1 .taken)))
+returns c = (λ f. sym (ap length (no-fraction _ f (c .if1 .taken))), omega arith)
 
 returns-2 : tie.Need-returns-2
-returns-2 c = omega (arith, fraction-part-length _ (c .before .if1 .left))
+returns-2 c = (λ f. sym (some-fraction-length _ f (c .if1 .left)), omega arith)
 
 pub fraction-length-spec : {M : Type 1} → statement M
-fraction-length-spec = tie.close (tie.spec returns (λ c κs. search needs) (λ c. search needs) returns-2)
+fraction-length-spec = tie.close (tie.spec returns (λ c. search needs) returns-2)

@@ -14,9 +14,11 @@ mul-result c = omega (arith, square-bound (c .distance .result) 4294967295 (c .d
 
 returns : tie.Need-returns
 unfolding squareOfDifference
-returns c =
-    rw (c .distance .ensures .0, toZ-ofZ (c .before .fits .a), toZ-ofZ (c .before .fits .b))
-    (sym (square-abs (c .before .args .a -ℤ c .before .args .b)))
+returns c = (
+  rw (c .distance .ensures .0, toZ-ofZ (c .before .fits .a), toZ-ofZ (c .before .fits .b))
+      (sym (square-abs (c .before .args .a -ℤ c .before .args .b))),
+  square-bound (c .distance .result) 4294967295 (c .distance .ensures .1),
+)
 
 pub square-of-difference-spec : {M : Type 1} → statement M
 square-of-difference-spec = tie.close (tie.spec (λ c κs. search needs) mul-result returns)

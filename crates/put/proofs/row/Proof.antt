@@ -1,4 +1,4 @@
--- Past the end nothing is written; else the command's five numbers and then the state's ten.
+-- Past the end nothing is written; else the command's five numbers, the state's ten, and the decimals.
 use Rattle.put.proofs.Puts.{put-past, put-parts}
 use borrow.Author.Needs.{needs}
 use Rattle.put.proofs.row.Statement.{statement}
@@ -9,10 +9,12 @@ returns c = put-past _ _ _ _ (c .if1 .taken)
 
 returns-2 : tie.Need-returns-2
 returns-2 c =
-    put-parts _ _ _ _ (c .before .before .before .before .before .before .before .before .before .before .if1 .left)
-    (c .before .before .before .before .before .before .before .before .before .command-numbers .ensures)
-    (c .before .before .before .before .before .before .before .before .state-numbers .ensures) (c .before .before .before .before .before .copy-in .ensures)
-    (c .before .copy-in2 .ensures)
+    let third = c .before in
+    let second = third .before .before .before .before in
+    let first = second .before .before .before .before in
+    let d = first .before .before .before in
+    put-parts _ _ _ _ (d .before .before .before .if1 .left) (d .before .before .command-numbers .ensures) (d .before .state-numbers .ensures)
+    (d .decimals .ensures) (first .copy-in .ensures) (second .copy-in2 .ensures) (third .copy-in3 .ensures)
 
 pub row-spec : {M : Type 1} → statement M
 row-spec =
@@ -22,8 +24,13 @@ row-spec =
     (λ c. search needs)
     (λ c κs. search needs)
     (λ c κs. search needs)
+    (λ c κs. search needs)
     (λ c. search needs)
     (λ c κs. search needs)
+    (λ c. search needs)
+    (λ c. search needs)
+    (λ c κs. search needs)
+    (λ c. search needs)
     (λ c. search needs)
     (λ c. search needs)
     (λ c κs. search needs)
