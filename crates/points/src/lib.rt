@@ -45,7 +45,7 @@ pub fn distance(a: i32, b: i32) -> u64
 }
 
 fn square_of_difference(a: i32, b: i32) -> u64
-    ensures { λ r. ⌜ (r ≡ S.squareOfDifference a b) × (r ≤ 18446744065119617025) ⌝ }
+    ensures { λ r. ⌜ (r ≡ S.squareOfDifference a b) × (r ≤ 4294967295 * 4294967295) ⌝ }
 {
     let d = distance(a, b);
     d * d
@@ -86,7 +86,7 @@ fn quarter_of_sum(x: u64, y: u64) -> u64
 // Whether x + y is at most the square of s, where neither need fit. With q for s / 2 and e for s % 2 the square is 4 q (q + e) + e; so a
 // quarter of the sum, rounded up once e is taken off, is compared with q (q + e). A q beyond 32 bits is beyond every sum.
 fn at_most_square(x: u64, y: u64, s: u64) -> bool
-    requires { ⌜ x ≤ 18446744065119617025 ⌝ }
+    requires { ⌜ x ≤ 4294967295 * 4294967295 ⌝ }
     ensures { λ r. ⌜ r ≡ leb (x + y) (S.square s) ⌝ }
 {
     let q = s / 2;
