@@ -169,7 +169,14 @@ fn jobs() -> Vec<Job> {
     // How the cost grows.
     let first_never = Work::Edit { place: "first", never: true };
     let first_at_once = Work::Edit { place: "first", never: false };
-    for work in [Work::Read, Work::Write, first_at_once, first_never] {
+    for body in [Body::Hits, Body::Routs, Body::Comments] {
+        for work in [Work::Read, Work::Write] {
+            for lines in [10, 100] {
+                jobs.push(Job { work, body, lines });
+            }
+        }
+    }
+    for work in [first_at_once, first_never] {
         for lines in [10, 100] {
             jobs.push(Job { work, body: Body::Hits, lines });
         }

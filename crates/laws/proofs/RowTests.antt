@@ -1,17 +1,14 @@
 -- The tests of a row's numbers: what each says of a number, and of the numbers of a row in range.
 use mathlib.Core.Path.{_≡_, refl, sym, ap, _∙_}
 use mathlib.Core.List.{List}
-use mathlib.Core.Bool.{Bool, true, false, _&&_, false≢true, cond}
+use mathlib.Core.Bool.{Bool, true, false, _&&_, false≢true}
 use Prim.Native.Nat.{ℕ, _≤_, _%_}
 use native.Mathlib.Omega.{arith}
 use borrow.Author.Tests.{leb-true, le-leb, eqb-true, eq-eqb}
-use lib.Dec.{T, leb, eqb}
+use lib.Dec.{leb}
 use lib.IntN.{ℤ, pos, negsuc, natAbs}
-use lib.Signed.{nonNeg}
 use Rattle.lists.proofs.Choice.{both}
-use Rattle.points.specs.Points.{placeOf}
-use Rattle.rules.specs.Numbers.{maxNumber, maxTool, maxPlaces}
-use Rattle.rules.specs.Kinds.{carriesTool, carriesRadius, carriesSize}
+use Rattle.rules.specs.Numbers.{maxNumber, maxTool}
 use Rattle.rules.specs.Kinds as Kinds
 use Rattle.rules.specs.State.{over, inchUnit, toolDown}
 use Rattle.tools.specs.Set.{maxWord}
@@ -35,15 +32,6 @@ pub within-says : (lo hi : ℕ) (z : ℤ) → within lo hi z ≡ true → Within
 unfolding within
 within-says lo hi (pos n) e = let h = both (leb lo n) (leb n hi) e in record { natural = refl; low = leb-true lo n (h .0); high = leb-true n hi (h .1) }
 within-says lo hi (negsuc n) e = absurd (false≢true e)
-
-pub within-natural : (lo hi : ℕ) (z : ℤ) → within lo hi z ≡ true → T (nonNeg z)
-unfolding within
-within-natural lo hi (pos n) e = tt
-within-natural lo hi (negsuc n) e = absurd (false≢true e)
-
-pub picked-natural : (b : Bool) (lo hi : ℕ) (z : ℤ) → cond b (within lo hi z) (isZero z) ≡ true → T (nonNeg z)
-picked-natural true lo hi z e = within-natural lo hi z e
-picked-natural false lo hi z e = within-natural 0 0 z e
 
 pub zero-says : (z : ℤ) → isZero z ≡ true → z ≡ pos 0
 zero-says z e = let w = within-says 0 0 z e in let h : natAbs z ≡ 0 = omega arith in sym (w .natural) ∙ ap pos h
@@ -81,22 +69,6 @@ command-tested a e =
     let e2 = both (legalPoint (fieldN a 0) (field a 2) (field a 3)) _ (e1 .1) in
     let e3 = both (legalSize (fieldN a 0) (field a 4)) (legalDecimals (fieldN a 0) (field a 4) (field a 15)) (e2 .1) in
     record { kind = e0 .0; tool = e1 .0; point = e2 .0; size = e3 .0; decimals = e3 .1 }
-
-pub tool-natural : (k : ℕ) (t : ℤ) → legalTool k t ≡ true → T (nonNeg t)
-unfolding legalTool
-tool-natural k t e = picked-natural (carriesTool k) 1 maxTool t e
-
-pub size-natural : (k : ℕ) (d : ℤ) → legalSize k d ≡ true → T (nonNeg d)
-unfolding legalSize
-size-natural k d e = picked-natural (carriesSize k) 1 maxNumber d e
-
-pub decimals-natural : (k : ℕ) (r d : ℤ) → legalDecimals k r d ≡ true → T (nonNeg d)
-unfolding legalDecimals
-decimals-natural k r d e = by (carriesRadius k) e
-  where
-    by : (t : Bool) → cond t (within 0 maxPlaces d && eqb (natAbs r % placeOf (natAbs d)) 0) (isZero d) ≡ true → T (nonNeg d)
-    by true h = within-natural 0 maxPlaces d (both (within 0 maxPlaces d) _ h .0)
-    by false h = within-natural 0 0 d h
 
 pub record StateTested (a : List ℤ) : Type 0 where
   pub phase : within 0 over (field a 5) ≡ true

@@ -2,10 +2,10 @@
 ghost use mathlib.Core.Path.{_≡_};
 ghost use Prim.Native.Nat.{ℕ, _+_, _%_, _≤_, _<_, min};
 ghost use lib.ListN.{length};
-ghost use lib.IntN.{natAbs};
 ghost use Rattle.rules.specs.Writing.{lastDigits, widthOf, placesOf, fractionText, numberText, radiusText, coordinateText};
 ghost use Rattle.rules.specs.Numbers.{maxPlaces};
 ghost use Rattle.text.specs.Wrote.{Wrote};
+use points::size;
 use rules::MAX_PLACES;
 use text::put_byte;
 use text::put_word;
@@ -58,13 +58,6 @@ fn radius_places(decimals: u32) -> usize
         return decimals as usize;
     }
     MAX_PLACES as usize
-}
-
-// A coordinate without its sign, which fits 32 bits.
-fn size(x: i32) -> u32
-    ensures { λ r. ⌜ r ≡ natAbs x ⌝ }
-{
-    points::distance(x, 0) as u32
 }
 
 // ---- lengths

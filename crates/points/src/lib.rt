@@ -44,6 +44,13 @@ pub fn distance(a: i32, b: i32) -> u64
     d as u64
 }
 
+/// A number without its sign. It fits 32 bits.
+pub fn size(x: i32) -> u32
+    ensures { λ r. ⌜ r ≡ natAbs x ⌝ }
+{
+    distance(x, 0) as u32
+}
+
 fn square_of_difference(a: i32, b: i32) -> u64
     ensures { λ r. ⌜ (r ≡ S.squareOfDifference a b) × (r ≤ 4294967295 * 4294967295) ⌝ }
 {

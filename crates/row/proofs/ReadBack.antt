@@ -52,11 +52,8 @@ module _ (z : ℤ) (h : Signed z) where
   pub read-negative : (lo hi : ℕ) → ltZ (toZ w32 (ofZ w32 z)) (pos 0) ≡ true → false ≡ within lo hi z
   read-negative lo hi e = negative-out lo hi z (rw (read-back z h) at e)
 
-  pub natural-cast : T (nonNeg z) → T (nonNeg (toZ w32 (ofZ w32 z))) × Fits w32 (natAbs (toZ w32 (ofZ w32 z)))
-  natural-cast n = let f : SFits w32 z = record { sfits = h } in rw (read-back z h) (n, fits-natAbs tt f)
-
   pub read-cast : ltZ (toZ w32 (ofZ w32 z)) (pos 0) ≡ false → T (nonNeg (toZ w32 (ofZ w32 z))) × Fits w32 (natAbs (toZ w32 (ofZ w32 z)))
-  read-cast e = natural-cast (not-negative z (rw (read-back z h) at e))
+  read-cast e = let f : SFits w32 z = record { sfits = h } in rw (read-back z h) (not-negative z (rw (read-back z h) at e), fits-natAbs tt f)
 
   pub read-low-in : (lo hi : ℕ) → ltZ (toZ w32 (ofZ w32 z)) (pos 0) ≡ false → lo ≤ natAbs (toZ w32 (ofZ w32 z))
       → leb (natAbs (toZ w32 (ofZ w32 z))) hi ≡ within lo hi z

@@ -1,9 +1,7 @@
 // One row in lent numbers: which numbers a row may have, and the row that they are.
 ghost use mathlib.Core.Path.{_≡_};
-ghost use mathlib.Core.Bool.{true, _&&_};
+ghost use mathlib.Core.Bool.{_&&_};
 ghost use Prim.Native.Nat.{_+_, _<_};
-ghost use lib.Dec.{T};
-ghost use lib.Signed.{nonNeg};
 ghost use lib.ListN.{length};
 ghost use Rattle.rules.specs.Kinds as Kinds;
 ghost use Rattle.rules.specs.Rows as R;
@@ -12,6 +10,7 @@ ghost use Rattle.row.specs.Row as S;
 use points::Arc;
 use points::Point;
 use points::place_of;
+use points::size;
 use rules::Command;
 use rules::Looked;
 use rules::MAX_NUMBER;
@@ -76,12 +75,12 @@ fn is_coord(a: &[i32], j: usize) -> bool
     -(MAX_NUMBER as i32) <= v && v <= MAX_NUMBER as i32
 }
 
-// A number that a test let through.
+// Without its sign; one that a test let through has none.
 fn natural(a: &[i32], j: usize) -> u32
-    requires { ⌜ (j < length (now a)) × T (nonNeg (R.field (now a) j)) ⌝ }
+    requires { ⌜ j < length (now a) ⌝ }
     ensures { λ r. ⌜ r ≡ R.fieldN (now (a .entry)) j ⌝ }
 {
-    a[j] as u32
+    size(a[j])
 }
 
 // ---- a point, two numbers
@@ -235,7 +234,7 @@ fn command_of(kind: u32, tool: u32, to: Point, size: u32, decimals: u32) -> Comm
 }
 
 fn command_at(a: &[i32]) -> Command
-    requires { ⌜ (length (now a) ≡ R.rowWidth) × (R.legalCommand (now a) ≡ true) ⌝ }
+    requires { ⌜ length (now a) ≡ R.rowWidth ⌝ }
     ensures { λ r. ⌜ r ≡ R.commandAt (now (a .entry)) ⌝ }
 {
     let to = point_at(a, TO);
@@ -300,7 +299,7 @@ fn legal_state(a: &[i32]) -> bool
 }
 
 fn tools_at(a: &[i32]) -> Tools
-    requires { ⌜ (length (now a) ≡ R.rowWidth) × (R.legalState (now a) ≡ true) ⌝ }
+    requires { ⌜ length (now a) ≡ R.rowWidth ⌝ }
     ensures { λ r. ⌜ r ≡ P.toolsAt (now (a .entry)) ⌝ }
 {
     Tools {
@@ -312,7 +311,7 @@ fn tools_at(a: &[i32]) -> Tools
 }
 
 fn state_at(a: &[i32]) -> State
-    requires { ⌜ (length (now a) ≡ R.rowWidth) × (R.legalState (now a) ≡ true) ⌝ }
+    requires { ⌜ length (now a) ≡ R.rowWidth ⌝ }
     ensures { λ r. ⌜ r ≡ R.stateAt (now (a .entry)) ⌝ }
 {
     State {
@@ -348,4 +347,15 @@ pub fn look(a: &[i32]) -> Looked
         return Looked::Bad;
     }
     row_of(a)
+}
+
+/// The command in a row's numbers, which aren't tested: it is the row's where they are a row. Too few or too many have none,
+/// as a comment has.
+pub fn command(a: &[i32]) -> Command
+    ensures { λ r. ⌜ r ≡ S.commandIn (now (a .entry)) ⌝ }
+{
+    if a.len() == ROW_WIDTH {
+        return command_at(a);
+    }
+    Command::Comment
 }

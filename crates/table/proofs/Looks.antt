@@ -2,7 +2,7 @@
 -- looks at its rows.
 use mathlib.Core.Path.{_≡_, refl, sym, ap, _∙_}
 use mathlib.Core.Bool.{Bool, true, false, cond}
-use mathlib.Core.List.{List, _∷_}
+use mathlib.Core.List.{List, [], _∷_}
 use Prim.Native.Nat.{ℕ, suc, _+_, _-_, _*_, _/_, _<_, _≤_}
 use native.Mathlib.Omega.{arith}
 use native.Mathlib.Nat.{add-zero}
@@ -11,29 +11,30 @@ use lib.Dec.{leb}
 use lib.IntN.{ℤ}
 use lib.ListN.{length, getD, take, drop, length-drop}
 use lib.Seq.{drop-drop, length-take-le, getD-drop}
-use Rattle.runs.specs.Machine.{Entry, bad}
+use Rattle.runs.specs.Machine.{Row, Entry, holds, bad}
 use Rattle.rules.specs.declared.Command.{Command}
+use Rattle.rules.specs.declared.Command.the-variants.{Comment}
 use Rattle.rules.specs.declared.State.{State}
 use Rattle.rules.specs.declared.Looked.{Looked}
 use Rattle.rules.specs.declared.Looked.the-variants.{Holds, Bad}
 use Rattle.rules.specs.declared.Before.the-variants.{From}
-use Rattle.rules.specs.Rows.{rowWidth, rowNumbers, lookOf, entryOf, entriesOf}
+use Rattle.rules.specs.Rows.{rowWidth, rowNumbers, rowTest, commandAt, stateAt, lookOf, entryOf, entriesOf}
 use Rattle.rules.specs.State.{start}
 use Rattle.rules.specs.Editing.{entryAt, stateIn, beforeLine}
 use Rattle.rules.specs.Ranges.{StateOk, CommandOk}
 use Rattle.laws.proofs.Rows.{look-holds}
 use Rattle.laws.proofs.Entries.{entries-drop}
-use Rattle.row.specs.Row.{looked}
-use Rattle.table.specs.Table.{lookAt, rowAt}
+use Rattle.row.specs.Row.{looked, commandIn}
+use Rattle.table.specs.Table.{numbersAt, lookAt, commandOf, rowAt}
 
 module _ (t : List ℤ) (i : ℕ) where
-  abbrev numbersAt : List ℤ
-  numbersAt = take rowWidth (drop (rowWidth * i) t)
+  abbrev rowThere : List ℤ
+  rowThere = take rowWidth (drop (rowWidth * i) t)
 
-  many : rowWidth * i + rowWidth ≤ length t → length numbersAt ≡ rowWidth
+  many : rowWidth * i + rowWidth ≤ length t → length rowThere ≡ rowWidth
   many h = length-take-le rowWidth (drop (rowWidth * i) t) (simp length-drop (omega arith))
 
-  pub look-inside : rowWidth * i + rowWidth ≤ length t → lookAt t i ≡ lookOf numbersAt
+  pub look-inside : rowWidth * i + rowWidth ≤ length t → lookAt t i ≡ lookOf rowThere
   unfolding lookAt
   look-inside h = rw (le-leb (rowWidth * i + rowWidth) (length t) h)
 
@@ -41,28 +42,57 @@ module _ (t : List ℤ) (i : ℕ) where
   unfolding lookAt
   look-outside h = rw (lt-leb (rowWidth * i + rowWidth) (length t) h)
 
-  -- the same, as the code tests it
-  pub look-past : length t / rowWidth ≤ i → Bad ≡ lookAt t i
-  look-past h = sym (look-outside (omega arith))
+  -- the numbers of the row, as the code takes them
+  pub numbers-past : length t / rowWidth ≤ i → [] ≡ numbersAt t i
+  unfolding numbersAt
+  numbers-past h = rw (lt-leb (rowWidth * i + rowWidth) (length t) (omega arith))
 
-  pub look-part : {l : Looked} → i < length t / rowWidth → l ≡ looked (take (rowWidth * i + rowWidth - rowWidth * i) (drop (rowWidth * i) t)) → l ≡ lookAt t i
-  unfolding looked
-  look-part h e =
+  pub numbers-part : i < length t / rowWidth → take (rowWidth * i + rowWidth - rowWidth * i) (drop (rowWidth * i) t) ≡ numbersAt t i
+  unfolding numbersAt
+  numbers-part h =
       let f : rowWidth * i + rowWidth - rowWidth * i ≡ rowWidth = omega arith in
-      e ∙ rw (f, eq-eqb (length numbersAt) rowWidth (many (omega arith))) (sym (look-inside (omega arith)))
+      rw (f, le-leb (rowWidth * i + rowWidth) (length t) (omega arith))
+
+  -- what a row's numbers are, none past the end
+  pub look-numbers : looked (numbersAt t i) ≡ lookAt t i
+  unfolding numbersAt lookAt looked
+  look-numbers = by (leb (rowWidth * i + rowWidth) (length t)) refl
+    where
+      by : (b : Bool) → leb (rowWidth * i + rowWidth) (length t) ≡ b → looked (cond b rowThere []) ≡ cond b (lookOf rowThere) Bad
+      by true h = rw (eq-eqb (length rowThere) rowWidth (many (leb-true (rowWidth * i + rowWidth) (length t) h)))
+      by false h = refl
+
+  pub command-numbers : commandIn (numbersAt t i) ≡ commandOf t i
+  unfolding numbersAt commandOf commandIn
+  command-numbers = by (leb (rowWidth * i + rowWidth) (length t)) refl
+    where
+      by : (b : Bool) → leb (rowWidth * i + rowWidth) (length t) ≡ b → commandIn (cond b rowThere []) ≡ cond b (commandAt rowThere) Comment
+      by true h = rw (eq-eqb (length rowThere) rowWidth (many (leb-true (rowWidth * i + rowWidth) (length t) h)))
+      by false h = refl
+
+  -- the command is the row's where they are a row
+  module _ (inside : rowWidth * i + rowWidth ≤ length t) (r : Row Command State) where
+    command-found : (b : Bool) → entryOf (cond b (Holds (commandAt rowThere) (stateAt rowThere)) Bad) ≡ holds r → commandAt rowThere ≡ r .command
+    command-found true e = cc
+    command-found false e = absurd (let z : _≡_ {A = ℕ} 0 1 = cc in omega arith)
+
+    pub command-holds : entryOf (lookAt t i) ≡ holds r → commandOf t i ≡ r .command
+    unfolding commandOf lookOf
+    command-holds e =
+        rw (le-leb (rowWidth * i + rowWidth) (length t) inside) (command-found (rowTest rowThere) (ap entryOf (sym (look-inside inside)) ∙ e))
 
   -- a row found whole lies inside, and is in range
   module _ (c : Command) (s : State) where
     pub record Found : Type 0 where
       pub inside : rowWidth * i + rowWidth ≤ length t
-      pub numbers : numbersAt ≡ rowNumbers (record { command = c; state = s })
+      pub numbers : rowThere ≡ rowNumbers (record { command = c; state = s })
       pub command-ok : CommandOk c
       pub state-ok : StateOk s
 
-    found-in : (b : Bool) → leb (rowWidth * i + rowWidth) (length t) ≡ b → cond b (lookOf numbersAt) Bad ≡ Holds c s → Found
+    found-in : (b : Bool) → leb (rowWidth * i + rowWidth) (length t) ≡ b → cond b (lookOf rowThere) Bad ≡ Holds c s → Found
     found-in true h e =
         let inside = leb-true (rowWidth * i + rowWidth) (length t) h in
-        let row = look-holds numbersAt c s (many inside) e in
+        let row = look-holds rowThere c s (many inside) e in
         record { inside = inside; numbers = row .numbers; command-ok = row .command-ok; state-ok = row .state-ok }
     found-in false h e = absurd (let z : _≡_ {A = ℕ} 0 1 = cc in omega arith)
 

@@ -1,11 +1,11 @@
 -- Signed numbers of 32 bits as text: a minus and the size where negative, else the size alone.
-use mathlib.Core.Path.{_≡_, refl, sym, ap, _∙_}
+use mathlib.Core.Path.{_≡_, refl, sym}
 use mathlib.Core.Bool.{true, false, false≢true}
 use mathlib.Core.List.{List, _++_}
 use Prim.Native.Nat.{ℕ, suc, _<_, _≤_}
 use native.Mathlib.Omega.{arith}
 use borrow.Author.Tests.{ltb-true}
-use lib.IntN.{ℤ, pos, negsuc, natAbs, _-ℤ_, +ℤ-idr}
+use lib.IntN.{ℤ, pos, negsuc, natAbs}
 use lib.ListN.{length}
 use lib.Signed.{mag, ltZ}
 use mir.Syntax.{w32}
@@ -15,10 +15,6 @@ use Rattle.lists.specs.Words.{bytes}
 use Rattle.rules.specs.Printing.{decimal, signedDecimal}
 use Rattle.rules.specs.Writing.{numberText, coordinateText}
 use Rattle.text.proofs.Decimals.{decimal-short}
-
--- the distance to 0 is the size
-pub from-zero : (x : ℤ) {m : ℕ} → m ≡ natAbs (toZ w32 (ofZ w32 x) -ℤ pos 0) → m ≡ natAbs (toZ w32 (ofZ w32 x))
-from-zero x e = e ∙ ap natAbs (+ℤ-idr (toZ w32 (ofZ w32 x)))
 
 pub record Signed (text : ℤ → List ℕ) (whole : ℕ → List ℕ) : Type 0 where
   pub plain : (n : ℕ) → text (pos n) ≡ whole n

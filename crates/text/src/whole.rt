@@ -31,7 +31,7 @@ pub fn put_decimal(b: &mut [u8], at: usize, n: u64) -> usize
 pub fn put_signed(b: &mut [u8], at: usize, x: i32) -> usize
     ensures { λ r. ⌜ Wrote (now (b .entry)) at (signedDecimal x) (now (b .exit)) r ⌝ }
 {
-    let size = points::distance(x, 0);
+    let size = points::size(x) as u64;
     if x < 0 {
         let digits = put_byte(b, at, b'-');
         return put_decimal(b, digits, size);

@@ -20,7 +20,7 @@ use Rattle.rules.specs.Answers.{said}
 use Rattle.rules.specs.Reading.{Rows}
 use Rattle.rules.specs.Writing.{textOfRows, followFrom, rowsOf, inBlock, withText, writeAnswer, writeLeaves}
 use Rattle.laws.proofs.Sizes.{sizes-say}
-use Rattle.writer.specs.Walk.{bytesFrom, textOfEntries}
+use Rattle.writer.specs.Walk.{bytesFrom, textFrom}
 use Rattle.writer.proofs.Walk.{text-follows}
 
 abbrev WriteIs : List ℤ → ℕ → List ℕ → Answer → List ℕ → Type 0
@@ -72,10 +72,10 @@ module _ (t : List ℤ) (n : ℕ) (b : List ℕ) where
             let e = lt-leb (length (textOfRows (all .rows))) (length b) (rw (all .long) at h) in
             from-verdict (accepted (all .rows)) (rows-are ∙ all .verdict) (Refused noRoom 0) b (rw e, rw e)
 
-        pub write-done : m ≤ length b → (b′ : List ℕ) → b′ ≡ putIn b 0 (textOfEntries (entriesOf n t)) → WriteIs t n b (Done m) b′
+        pub write-done : m ≤ length b → (b′ : List ℕ) → b′ ≡ putIn b 0 (textFrom t 0 n) → WriteIs t n b (Done m) b′
         write-done h b′ w =
             let x = textOfRows (all .rows) in
             let e = le-leb (length x) (length b) (rw (all .long) at h) in
             let fits = fitting-all b 0 x (omega (arith, all .long)) in
             from-verdict (accepted (all .rows)) (rows-are ∙ all .verdict) (Done m) b′
-            (rw e (ap Done (all .long)), rw e (w ∙ ap (putIn b 0) (text-follows start (entriesOf n t) 0 (all .rows) (all .verdict)) ∙ ap (putAt b 0) fits))
+            (rw e (ap Done (all .long)), rw e (w ∙ ap (putIn b 0) (text-follows t n (rows-fit t n fe f .room) (all .rows) (all .verdict)) ∙ ap (putAt b 0) fits))

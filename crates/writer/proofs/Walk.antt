@@ -2,11 +2,11 @@
 use mathlib.Core.Path.{_≡_, refl, sym, ap, _∙_}
 use mathlib.Core.Bool.{Bool, true, false, cond}
 use mathlib.Core.List.{List, [], _∷_, _++_}
-use Prim.Native.Nat.{ℕ, _+_, _*_, _<_, _≤_}
+use Prim.Native.Nat.{ℕ, zero, suc, _+_, _-_, _*_, _<_, _≤_}
 use native.Mathlib.Omega.{arith}
 use lib.IntN.{ℤ}
 use lib.ListN.{length, drop, drop-of-length-le, length-append}
-use Rattle.runs.specs.Machine.{Out, yields, stops, onOut, Verdict, accepted, refused, Row, allHold, before, follow}
+use Rattle.runs.specs.Machine.{Out, yields, stops, onOut, Verdict, accepted, refused, Row, Entry, holds, allHold, before, follow}
 use Rattle.runs.proofs.Follow.{follow-follows}
 use Rattle.rules.specs.declared.Command.{Command}
 use Rattle.rules.specs.declared.State.{State}
@@ -16,15 +16,15 @@ use Rattle.rules.specs.declared.Looked.the-variants.{Holds, Bad}
 use Rattle.rules.specs.declared.Answer.{Answer}
 use Rattle.rules.specs.declared.Answer.the-variants.{Done, Refused}
 use Rattle.rules.specs.Refusals.{badTable}
-use Rattle.rules.specs.State.{taken, hasEnded, sameState}
+use Rattle.rules.specs.State.{start, taken, hasEnded, sameState}
 use Rattle.rules.specs.Rows.{rowWidth, entryOf, entriesOf}
 use Rattle.rules.specs.Reading.{Rows}
 use Rattle.rules.specs.Writing.{lineText, textOfRows, longestLine, followFrom}
 use Rattle.rules.proofs.Same.{same-state-iff}
 use Rattle.laws.proofs.Entries.{entries-length}
-use Rattle.table.specs.Table.{lookAt, followed}
-use Rattle.table.proofs.Looks.{entries-cons}
-use Rattle.writer.specs.Walk.{Entries, bytesFrom, textOfEntries}
+use Rattle.table.specs.Table.{lookAt, commandOf, followed}
+use Rattle.table.proofs.Looks.{command-holds, entries-cons}
+use Rattle.writer.specs.Walk.{bytesFrom, textFrom}
 
 -- ---- one row looked at, where it follows, and the rows after it
 
@@ -32,7 +32,7 @@ abbrev onLooked : {A : Type 0} → Looked → A → (Row Command State → A) �
 onLooked (Holds c s) z f = f (record { command = c; state = s })
 onLooked Bad z f = z
 
-module _ (es : Entries) (i : ℕ) where
+module _ (es : List (Entry Command State)) (i : ℕ) where
   abbrev told : Looked → Verdict Rows Refusal
   told l = onLooked l (refused badTable (i + 1)) (λ r. before r (followFrom (r .state) es (i + 1)))
 
@@ -93,29 +93,35 @@ module _ (t : List ℤ) (n : ℕ) (p : State) (b i : ℕ) (w : Answer) where
     pub told-unended : d ≡ false → Refused badTable n ≡ w
     told-unended g = rw (over, g) at inv
 
--- ---- writing: the text of the rows after i others
+-- ---- writing: the commands in the rows left, after i others
 
-module _ (t : List ℤ) (n : ℕ) (i : ℕ) where
-  pub text-over : n ≤ i → textOfEntries (drop i (entriesOf n t)) ≡ []
-  unfolding textOfEntries
-  text-over h = rw (drop-of-length-le (entriesOf n t) {i = i} (omega (arith, entries-length n t)))
+module _ (t : List ℤ) (n i : ℕ) where
+  pub text-over : n ≤ i → textFrom t i (n - i) ≡ []
+  unfolding textFrom
+  text-over h = let e : n - i ≡ 0 = omega arith in rw e
 
-  module _ (room : rowWidth * n ≤ length t) (h : i < n) {l : Looked} (le : l ≡ lookAt t i) where
-    pub text-bad : l ≡ Bad → textOfEntries (drop i (entriesOf n t)) ≡ []
-    unfolding textOfEntries
-    text-bad g = rw (entries-cons n t i h room, sym le ∙ g)
+  pub text-next : i < n → {c : Command} → c ≡ commandOf t i → textFrom t i (n - i) ≡ lineText c ++ textFrom t (i + 1) (n - (i + 1))
+  unfolding textFrom
+  text-next h g = let e : n - i ≡ suc (n - (i + 1)) = omega arith in rw (e, g)
 
-    pub text-next : (c : Command) (s : State) → l ≡ Holds c s → textOfEntries (drop i (entriesOf n t)) ≡ lineText c ++ textOfEntries (drop (i + 1) (entriesOf n t))
-    unfolding textOfEntries
-    text-next c s g = rw (entries-cons n t i h room, sym le ∙ g)
+-- ---- the text of rows that follow is that of the commands in them
 
--- ---- the text of rows that follow
+module _ (t : List ℤ) (n : ℕ) (room : rowWidth * n ≤ length t) where
+  text-whole : (m i : ℕ) (rs : Rows) → i + m ≡ n → drop i (entriesOf n t) ≡ allHold rs → textFrom t i m ≡ textOfRows rs
+  unfolding textFrom allHold textOfRows
+  text-whole zero i [] h e = refl
+  text-whole zero i (r ∷ rs) h e =
+      let f = drop-of-length-le (entriesOf n t) {i = i} (omega (arith, entries-length n t)) in
+      absurd (let z : _≡_ {A = ℕ} 0 1 = cc in omega arith)
+  text-whole (suc m) i [] h e =
+      let f = entries-cons n t i (omega arith) room in
+      absurd (let z : _≡_ {A = ℕ} 0 1 = cc in omega arith)
+  text-whole (suc m) i (r ∷ rs) h e =
+      let f = entries-cons n t i (omega arith) room in
+      let first : entryOf (lookAt t i) ≡ holds r = cc in
+      let others : drop (i + 1) (entriesOf n t) ≡ allHold rs = cc in
+      rw (command-holds t i (omega arith) r first) (ap (_++_ (lineText (r .command))) (text-whole m (i + 1) rs (omega arith) others))
 
-text-whole : (rs : Rows) → textOfEntries (allHold rs) ≡ textOfRows rs
-unfolding textOfEntries allHold textOfRows
-text-whole [] = refl
-text-whole (r ∷ rs) = ap (_++_ (lineText (r .command))) (text-whole rs)
-
-pub text-follows : (p : State) (es : Entries) (i : ℕ) (rs : Rows) → followFrom p es i ≡ accepted rs → textOfEntries es ≡ textOfRows rs
-text-follows p es i rs e =
-    ap textOfEntries (follow-follows taken sameState hasEnded badTable (λ a b. same-state-iff a b .0) p es i rs e .whole) ∙ text-whole rs
+  pub text-follows : (rs : Rows) → followFrom start (entriesOf n t) 0 ≡ accepted rs → textFrom t 0 n ≡ textOfRows rs
+  text-follows rs e =
+      text-whole n 0 rs (omega arith) (follow-follows taken sameState hasEnded badTable (λ a b. same-state-iff a b .0) start (entriesOf n t) 0 rs e .whole)

@@ -1,22 +1,8 @@
--- The tests let only natural numbers through where one is read.
-use native.Mathlib.Omega.{arith}
+-- Each number is read at its place.
 use Rattle.rules.specs.Rows.{commandAt}
-use Rattle.laws.proofs.RowTests.{command-tested, within-natural, tool-natural, size-natural, decimals-natural}
 use borrow.Author.Needs.{needs}
 use Rattle.row.proofs.command_at.Statement.{statement}
 use Rattle.row.proofs.command_at.Tie as tie
-
-natural-requires : tie.Need-natural-requires
-natural-requires c κs = (omega arith, within-natural _ _ _ (command-tested _ (c .before .pre .1) .kind))
-
-natural-requires-2 : tie.Need-natural-requires-2
-natural-requires-2 c κs = (omega arith, tool-natural _ _ (command-tested _ (c .before .before .pre .1) .tool))
-
-natural-requires-3 : tie.Need-natural-requires-3
-natural-requires-3 c κs = (omega arith, size-natural _ _ (command-tested _ (c .before .before .before .pre .1) .size))
-
-natural-requires-4 : tie.Need-natural-requires-4
-natural-requires-4 c κs = (omega arith, decimals-natural _ _ _ (command-tested _ (c .before .before .before .before .pre .1) .decimals))
 
 returns : tie.Need-returns
 unfolding commandAt
@@ -34,9 +20,9 @@ command-at-spec =
     tie.close
     (tie.spec
     (λ c κs. search needs)
-    natural-requires
-    natural-requires-2
-    natural-requires-3
-    natural-requires-4
+    (λ c κs. search needs)
+    (λ c κs. search needs)
+    (λ c κs. search needs)
+    (λ c κs. search needs)
     (λ c κs. search needs)
     returns)

@@ -1,8 +1,6 @@
--- Each test decides, or leaves it to those after it; the kind is read once, after its own test.
-use native.Mathlib.Omega.{arith}
+-- Each test decides, or leaves it to those after it.
 use Rattle.rules.specs.Rows.{legalCommand}
 use Rattle.lists.proofs.Choice.{failed, passed}
-use Rattle.laws.proofs.RowTests.{within-natural}
 use borrow.Author.Needs.{needs}
 use Rattle.row.proofs.legal_command.Statement.{statement}
 use Rattle.row.proofs.legal_command.Tie as tie
@@ -10,9 +8,6 @@ use Rattle.row.proofs.legal_command.Tie as tie
 returns : tie.Need-returns
 unfolding legalCommand
 returns c = rw (failed (c .before .within .ensures) (c .if1 .taken))
-
-natural-requires : tie.Need-natural-requires
-natural-requires c κs = (omega arith, within-natural _ _ _ (passed (c .before .within .ensures) (c .if1 .left)))
 
 returns-2 : tie.Need-returns-2
 unfolding legalCommand
@@ -49,7 +44,7 @@ legal-command-spec =
     (tie.spec
     (λ c κs. search needs)
     returns
-    natural-requires
+    (λ c κs. search needs)
     (λ c κs. search needs)
     returns-2
     (λ c κs. search needs)

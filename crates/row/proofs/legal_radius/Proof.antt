@@ -1,8 +1,6 @@
--- Each test decides, or leaves it to those after it; a number is read after its own test.
-use native.Mathlib.Omega.{arith}
+-- Each test decides, or leaves it to those after it.
 use borrow.Author.Needs.{needs}
 use Rattle.lists.proofs.Choice.{failed, passed}
-use Rattle.laws.proofs.RowTests.{within-natural}
 use Rattle.row.proofs.legal_radius.Statement.{statement}
 use Rattle.row.proofs.legal_radius.Tie as tie
 
@@ -12,12 +10,6 @@ returns c = rw (failed (c .before .within .ensures) (c .if1 .taken))
 returns-2 : tie.Need-returns-2
 returns-2 c =
     rw (passed (c .before .before .before .within .ensures) (c .before .before .if1 .left), failed (c .before .within2 .ensures) (c .if2 .taken))
-
-natural-requires : tie.Need-natural-requires
-natural-requires c κs = (omega arith, within-natural _ _ _ (passed (c .before .before .before .within .ensures) (c .before .before .if1 .left)))
-
-natural-requires-2 : tie.Need-natural-requires-2
-natural-requires-2 c κs = (omega arith, within-natural _ _ _ (passed (c .before .before .within2 .ensures) (c .before .if2 .left)))
 
 returns-3 : tie.Need-returns-3
 returns-3 c =
@@ -37,8 +29,8 @@ legal-radius-spec =
     returns
     (λ c κs. search needs)
     returns-2
-    natural-requires
-    natural-requires-2
+    (λ c κs. search needs)
+    (λ c κs. search needs)
     (λ c κs. search needs)
     (λ c. search needs)
     returns-3)

@@ -1,5 +1,4 @@
 -- A row is whole where both tests pass; only then are its parts read.
-use native.Mathlib.Omega.{arith}
 use Rattle.lists.proofs.Choice.{failed, passed}
 use Rattle.rules.specs.Rows.{rowTest, lookOf}
 use borrow.Author.Needs.{needs}
@@ -13,12 +12,6 @@ returns c = rw (failed (c .before .legal-command .ensures) (c .if1 .taken))
 returns-2 : tie.Need-returns-2
 unfolding lookOf rowTest
 returns-2 c = rw (passed (c .before .before .before .legal-command .ensures) (c .before .before .if1 .left), failed (c .before .legal-state .ensures) (c .if2 .taken))
-
-command-at-requires : tie.Need-command-at-requires
-command-at-requires c κs = (omega arith, passed (c .before .before .before .legal-command .ensures) (c .before .before .if1 .left))
-
-state-at-requires : tie.Need-state-at-requires
-state-at-requires c κs = (omega arith, passed (c .before .before .legal-state .ensures) (c .before .if2 .left))
 
 returns-3 : tie.Need-returns-3
 unfolding lookOf rowTest
@@ -38,6 +31,6 @@ row-of-spec =
     returns
     (λ c κs. search needs)
     returns-2
-    command-at-requires
-    state-at-requires
+    (λ c κs. search needs)
+    (λ c κs. search needs)
     returns-3)

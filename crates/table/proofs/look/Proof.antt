@@ -1,25 +1,12 @@
--- Past the end there is no row; else a row is looked at as its own numbers.
-use Rattle.table.proofs.Looks.{look-past, look-part}
+-- A row is looked at as its own numbers.
+use mathlib.Core.Path.{_∙_}
 use borrow.Author.Needs.{needs}
+use Rattle.table.proofs.Looks.{look-numbers}
 use Rattle.table.proofs.look.Statement.{statement}
 use Rattle.table.proofs.look.Tie as tie
 
 returns : tie.Need-returns
-returns c = look-past _ _ (c .if1 .taken)
-
-returns-2 : tie.Need-returns-2
-returns-2 c = look-part _ _ (c .before .before .if1 .left) (c .look .ensures)
+returns c = rw (c .before .numbers .ensures) at (c .look .ensures) ∙ look-numbers _ _
 
 pub look-spec : {M : Type 1} → statement M
-look-spec =
-    tie.close
-    (tie.spec
-    returns
-    (λ c. search needs)
-    (λ c. search needs)
-    (λ c. search needs)
-    (λ c. search needs)
-    (λ c. search needs)
-    (λ c. search needs)
-    (λ c κs. search needs)
-    returns-2)
+look-spec = tie.close (tie.spec (λ c κs. search needs) (λ c κs. search needs) returns)

@@ -15,9 +15,6 @@ returns-2 c =
     let m = c .before .before .before .before in
     write-no-room _ _ _ (m .before .before .sizes-fit .ensures) (m .before .if1 .left) (m .measure .ensures) _ (c .before .before .bytes .given .1) (c .if2 .taken)
 
-put-rows-requires : tie.Need-put-rows-requires
-put-rows-requires c κs = let e = c .before .before .before .before .before .before in rows-fit _ _ (e .before .sizes-fit .ensures) (e .if1 .left) .room
-
 returns-3 : tie.Need-returns-3
 returns-3 c =
     let m = c .before .before .before in
@@ -39,7 +36,7 @@ write-spec =
     (λ c. search needs)
     (λ c. search needs)
     returns-2
-    put-rows-requires
+    (λ c κs. search needs)
     returns-3
     (λ c. search needs)
     returns-4)
