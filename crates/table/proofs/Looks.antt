@@ -2,7 +2,7 @@
 -- looks at its rows.
 use mathlib.Core.Path.{_≡_, refl, sym, ap, _∙_}
 use mathlib.Core.Bool.{Bool, true, false, cond}
-use mathlib.Core.List.{List, [], _∷_}
+use mathlib.Core.List.{List, _∷_}
 use Prim.Native.Nat.{ℕ, suc, _+_, _-_, _*_, _/_, _<_, _≤_}
 use native.Mathlib.Omega.{arith}
 use native.Mathlib.Nat.{add-zero}
@@ -28,13 +28,10 @@ use Rattle.row.specs.Row.{looked, commandIn}
 use Rattle.table.specs.Table.{numbersAt, lookAt, commandOf, rowAt}
 
 module _ (t : List ℤ) (i : ℕ) where
-  abbrev rowThere : List ℤ
-  rowThere = take rowWidth (drop (rowWidth * i) t)
-
-  many : rowWidth * i + rowWidth ≤ length t → length rowThere ≡ rowWidth
+  many : rowWidth * i + rowWidth ≤ length t → length (numbersAt t i) ≡ rowWidth
   many h = length-take-le rowWidth (drop (rowWidth * i) t) (simp length-drop (omega arith))
 
-  pub look-inside : rowWidth * i + rowWidth ≤ length t → lookAt t i ≡ lookOf rowThere
+  pub look-inside : rowWidth * i + rowWidth ≤ length t → lookAt t i ≡ lookOf (numbersAt t i)
   unfolding lookAt
   look-inside h = rw (le-leb (rowWidth * i + rowWidth) (length t) h)
 
@@ -42,57 +39,52 @@ module _ (t : List ℤ) (i : ℕ) where
   unfolding lookAt
   look-outside h = rw (lt-leb (rowWidth * i + rowWidth) (length t) h)
 
-  -- the numbers of the row, as the code takes them
-  pub numbers-past : length t / rowWidth ≤ i → [] ≡ numbersAt t i
-  unfolding numbersAt
-  numbers-past h = rw (lt-leb (rowWidth * i + rowWidth) (length t) (omega arith))
+  command-inside : rowWidth * i + rowWidth ≤ length t → commandOf t i ≡ commandAt (numbersAt t i)
+  unfolding commandOf
+  command-inside h = rw (le-leb (rowWidth * i + rowWidth) (length t) h)
 
-  pub numbers-part : i < length t / rowWidth → take (rowWidth * i + rowWidth - rowWidth * i) (drop (rowWidth * i) t) ≡ numbersAt t i
-  unfolding numbersAt
-  numbers-part h =
+  -- the same, as the code has it
+  pub look-past : length t / rowWidth ≤ i → Bad ≡ lookAt t i
+  look-past h = sym (look-outside (omega arith))
+
+  pub look-part : {l : Looked} → i < length t / rowWidth → l ≡ looked (take (rowWidth * i + rowWidth - rowWidth * i) (drop (rowWidth * i) t)) → l ≡ lookAt t i
+  unfolding looked
+  look-part h e =
       let f : rowWidth * i + rowWidth - rowWidth * i ≡ rowWidth = omega arith in
-      rw (f, le-leb (rowWidth * i + rowWidth) (length t) (omega arith))
+      e ∙ rw (f, eq-eqb (length (numbersAt t i)) rowWidth (many (omega arith))) (sym (look-inside (omega arith)))
 
-  -- what a row's numbers are, none past the end
-  pub look-numbers : looked (numbersAt t i) ≡ lookAt t i
-  unfolding numbersAt lookAt looked
-  look-numbers = by (leb (rowWidth * i + rowWidth) (length t)) refl
-    where
-      by : (b : Bool) → leb (rowWidth * i + rowWidth) (length t) ≡ b → looked (cond b rowThere []) ≡ cond b (lookOf rowThere) Bad
-      by true h = rw (eq-eqb (length rowThere) rowWidth (many (leb-true (rowWidth * i + rowWidth) (length t) h)))
-      by false h = refl
+  pub command-past : length t / rowWidth ≤ i → Comment ≡ commandOf t i
+  unfolding commandOf
+  command-past h = rw (lt-leb (rowWidth * i + rowWidth) (length t) (omega arith))
 
-  pub command-numbers : commandIn (numbersAt t i) ≡ commandOf t i
-  unfolding numbersAt commandOf commandIn
-  command-numbers = by (leb (rowWidth * i + rowWidth) (length t)) refl
-    where
-      by : (b : Bool) → leb (rowWidth * i + rowWidth) (length t) ≡ b → commandIn (cond b rowThere []) ≡ cond b (commandAt rowThere) Comment
-      by true h = rw (eq-eqb (length rowThere) rowWidth (many (leb-true (rowWidth * i + rowWidth) (length t) h)))
-      by false h = refl
+  pub command-part : {c : Command} → i < length t / rowWidth → c ≡ commandIn (take (rowWidth * i + rowWidth - rowWidth * i) (drop (rowWidth * i) t)) → c ≡ commandOf t i
+  unfolding commandIn
+  command-part h e =
+      let f : rowWidth * i + rowWidth - rowWidth * i ≡ rowWidth = omega arith in
+      e ∙ rw (f, eq-eqb (length (numbersAt t i)) rowWidth (many (omega arith))) (sym (command-inside (omega arith)))
 
-  -- the command is the row's where they are a row
+  -- the command in a row's numbers is the row's where they are a row
   module _ (inside : rowWidth * i + rowWidth ≤ length t) (r : Row Command State) where
-    command-found : (b : Bool) → entryOf (cond b (Holds (commandAt rowThere) (stateAt rowThere)) Bad) ≡ holds r → commandAt rowThere ≡ r .command
+    command-found : (b : Bool) → entryOf (cond b (Holds (commandAt (numbersAt t i)) (stateAt (numbersAt t i))) Bad) ≡ holds r → commandAt (numbersAt t i) ≡ r .command
     command-found true e = cc
     command-found false e = absurd (let z : _≡_ {A = ℕ} 0 1 = cc in omega arith)
 
     pub command-holds : entryOf (lookAt t i) ≡ holds r → commandOf t i ≡ r .command
-    unfolding commandOf lookOf
-    command-holds e =
-        rw (le-leb (rowWidth * i + rowWidth) (length t) inside) (command-found (rowTest rowThere) (ap entryOf (sym (look-inside inside)) ∙ e))
+    unfolding lookOf
+    command-holds e = command-inside inside ∙ command-found (rowTest (numbersAt t i)) (ap entryOf (sym (look-inside inside)) ∙ e)
 
   -- a row found whole lies inside, and is in range
   module _ (c : Command) (s : State) where
     pub record Found : Type 0 where
       pub inside : rowWidth * i + rowWidth ≤ length t
-      pub numbers : rowThere ≡ rowNumbers (record { command = c; state = s })
+      pub numbers : numbersAt t i ≡ rowNumbers (record { command = c; state = s })
       pub command-ok : CommandOk c
       pub state-ok : StateOk s
 
-    found-in : (b : Bool) → leb (rowWidth * i + rowWidth) (length t) ≡ b → cond b (lookOf rowThere) Bad ≡ Holds c s → Found
+    found-in : (b : Bool) → leb (rowWidth * i + rowWidth) (length t) ≡ b → cond b (lookOf (numbersAt t i)) Bad ≡ Holds c s → Found
     found-in true h e =
         let inside = leb-true (rowWidth * i + rowWidth) (length t) h in
-        let row = look-holds rowThere c s (many inside) e in
+        let row = look-holds (numbersAt t i) c s (many inside) e in
         record { inside = inside; numbers = row .numbers; command-ok = row .command-ok; state-ok = row .state-ok }
     found-in false h e = absurd (let z : _≡_ {A = ℕ} 0 1 = cc in omega arith)
 

@@ -1,6 +1,6 @@
 -- A table in lent numbers: a row looked at, and one that follows. `i` counts the rows before it.
 use mathlib.Core.Bool.{cond}
-use mathlib.Core.List.{List, []}
+use mathlib.Core.List.{List}
 use Prim.Native.Nat.{ℕ, _+_, _-_, _*_}
 use lib.Dec.{leb}
 use lib.IntN.{ℤ}
@@ -14,17 +14,17 @@ use Rattle.rules.specs.declared.Looked.the-variants.{Holds, Bad}
 use Rattle.rules.specs.State.{taken, sameState}
 use Rattle.rules.specs.Rows.{rowWidth, commandAt, lookOf, entryOf}
 
--- the numbers of the row after i others; past the end there are none
-unfoldable pub numbersAt : List ℤ → ℕ → List ℤ
-numbersAt t i = cond (leb (rowWidth * i + rowWidth) (length t)) (take rowWidth (drop (rowWidth * i) t)) []
+-- the numbers of the row after i others
+abbrev pub numbersAt : List ℤ → ℕ → List ℤ
+numbersAt t i = take rowWidth (drop (rowWidth * i) t)
 
 -- the row after i others; past the end there is none
 unfoldable pub lookAt : List ℤ → ℕ → Looked
-lookAt t i = cond (leb (rowWidth * i + rowWidth) (length t)) (lookOf (take rowWidth (drop (rowWidth * i) t))) Bad
+lookAt t i = cond (leb (rowWidth * i + rowWidth) (length t)) (lookOf (numbersAt t i)) Bad
 
 -- the command in its numbers, untested; past the end there is none, as in a comment
 unfoldable pub commandOf : List ℤ → ℕ → Command
-commandOf t i = cond (leb (rowWidth * i + rowWidth) (length t)) (commandAt (take rowWidth (drop (rowWidth * i) t))) Comment
+commandOf t i = cond (leb (rowWidth * i + rowWidth) (length t)) (commandAt (numbersAt t i)) Comment
 
 -- the row of line k, as it is found; lines count from 1
 abbrev pub rowAt : List ℤ → ℕ → Entry Command State

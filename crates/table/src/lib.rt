@@ -39,30 +39,27 @@ pub fn is_line(n: usize, line: usize) -> bool
 
 // ---- its rows
 
-// The numbers of row i. Past the end there are none.
-fn numbers<'a>(table: &'a [i32], i: usize) -> &'a [i32]
-    ensures { λ r. ⌜ now r ≡ S.numbersAt (now (table .entry)) i ⌝ }
-{
-    if table.len() / ROW_WIDTH <= i {
-        return &table[0..0];
-    }
-    let start = ROW_WIDTH * i;
-    let end = start + ROW_WIDTH;
-    &table[start..end]
-}
-
 /// Row i, as its numbers are: no other number is looked at. Past the end there is none.
 pub fn look(table: &[i32], i: usize) -> Looked
     ensures { λ r. ⌜ r ≡ S.lookAt (now (table .entry)) i ⌝ }
 {
-    row::look(numbers(table, i))
+    if table.len() / ROW_WIDTH <= i {
+        return Looked::Bad;
+    }
+    let start = ROW_WIDTH * i;
+    let end = start + ROW_WIDTH;
+    row::look(&table[start..end])
 }
 
 /// The command in row i, of which nothing is tested: for a row that was looked at before. Past the end there is none.
 pub fn command(table: &[i32], i: usize) -> Command
     ensures { λ r. ⌜ r ≡ S.commandOf (now (table .entry)) i ⌝ }
 {
-    row::command(numbers(table, i))
+    if table.len() / ROW_WIDTH <= i {
+        return Command::Comment;
+    }
+    let first = ROW_WIDTH * i;
+    row::command(&table[first..first + ROW_WIDTH])
 }
 
 /// Row i, where it follows from the state before it.
