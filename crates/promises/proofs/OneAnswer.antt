@@ -6,6 +6,8 @@ use Rattle.points.proofs.Point.same.Kinds as point-same-kinds
 use Rattle.points.proofs.Point.same.Reads as point-same-reads
 use Rattle.points.proofs.distance.Kinds as distance-kinds
 use Rattle.points.proofs.distance.Reads as distance-reads
+use Rattle.points.proofs.size.Kinds as size-kinds
+use Rattle.points.proofs.size.Reads as size-reads
 use Rattle.points.proofs.place_of.Kinds as place-of-kinds
 use Rattle.points.proofs.place_of.Reads as place-of-reads
 use Rattle.points.proofs.Arc.is_possible.Kinds as arc-is-possible-kinds
@@ -56,12 +58,16 @@ use Rattle.line.proofs.answer.Kinds as line-answer-kinds
 use Rattle.line.proofs.answer.Reads as line-answer-reads
 use Rattle.row.proofs.look.Kinds as row-look-kinds
 use Rattle.row.proofs.look.Reads as row-look-reads
+use Rattle.row.proofs.command.Kinds as row-command-kinds
+use Rattle.row.proofs.command.Reads as row-command-reads
 use Rattle.table.proofs.sizes_fit.Kinds as table-sizes-fit-kinds
 use Rattle.table.proofs.sizes_fit.Reads as table-sizes-fit-reads
 use Rattle.table.proofs.is_line.Kinds as table-is-line-kinds
 use Rattle.table.proofs.is_line.Reads as table-is-line-reads
 use Rattle.table.proofs.look.Kinds as table-look-kinds
 use Rattle.table.proofs.look.Reads as table-look-reads
+use Rattle.table.proofs.command.Kinds as table-command-kinds
+use Rattle.table.proofs.command.Reads as table-command-reads
 use Rattle.table.proofs.following.Kinds as table-following-kinds
 use Rattle.table.proofs.following.Reads as table-following-reads
 use Rattle.table.proofs.state_before.Kinds as table-state-before-kinds
@@ -138,6 +144,9 @@ point-same κs a x y e f p q = same p q
 
 pub distance : OneAnswer 0 distance-kinds.ps distance-kinds.r distance-reads.Post
 distance κs a x y e f p q = same (p .0) (q .0)
+
+pub size : OneAnswer 0 size-kinds.ps size-kinds.r size-reads.Post
+size κs a x y e f p q = same p q
 
 pub place-of : OneAnswer 0 place-of-kinds.ps place-of-kinds.r place-of-reads.Post
 place-of κs a x y e f p q = same (p .0) (q .0)
@@ -222,6 +231,9 @@ line-answer κs a x y e f p q = same p q
 pub row-look : OneAnswer 1 row-look-kinds.ps row-look-kinds.r row-look-reads.Post
 row-look κs a x y e f p q = same p q
 
+pub row-command : OneAnswer 1 row-command-kinds.ps row-command-kinds.r row-command-reads.Post
+row-command κs a x y e f p q = same p q
+
 -- ---- crate table
 
 pub table-sizes-fit : OneAnswer 1 table-sizes-fit-kinds.ps table-sizes-fit-kinds.r table-sizes-fit-reads.Post
@@ -232,6 +244,9 @@ table-is-line κs a x y e f p q = same p q
 
 pub table-look : OneAnswer 1 table-look-kinds.ps table-look-kinds.r table-look-reads.Post
 table-look κs a x y e f p q = same p q
+
+pub table-command : OneAnswer 1 table-command-kinds.ps table-command-kinds.r table-command-reads.Post
+table-command κs a x y e f p q = same p q
 
 pub table-following : OneAnswer 1 table-following-kinds.ps table-following-kinds.r table-following-reads.Post
 table-following κs a x y e f p q = same p q

@@ -5,6 +5,7 @@ use Prim.Native.Nat.{ℕ, _+_, _%_}
 use lib.Dec.{eqb}
 use lib.IntN.{ℤ}
 use Rattle.points.specs.declared.Point.{Point}
+use Rattle.points.specs.declared.Arc.{Arc}
 use Rattle.points.specs.Points.{placeOf}
 use Rattle.tools.specs.declared.Tools.{Tools}
 use Rattle.tools.specs.Set.{maxWord}
@@ -14,6 +15,10 @@ use Rattle.rules.specs.Rows.{field, fieldN, within, isEven, legalSize, legalDec
 -- the point at places j and j + 1 of a row
 abbrev pub pointAt : List ℤ → ℕ → Point
 pointAt a j = record { x = field a j; y = field a (j + 1) }
+
+-- the arc in a row's numbers
+abbrev pub arcAt : List ℤ → Arc
+arcAt a = record { to = pointAt a 2; radius = fieldN a 4; decimals = fieldN a 15 }
 
 -- a radius with its decimals, and the last two tests of a command together
 abbrev pub legalRadius : List ℤ → Bool

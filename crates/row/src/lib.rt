@@ -202,49 +202,40 @@ fn legal_command(a: &[i32]) -> bool
     legal_size(a, kind)
 }
 
-fn command_of(kind: u32, tool: u32, to: Point, size: u32, decimals: u32) -> Command
-    ensures { λ r. ⌜ r ≡ R.commandFrom kind tool to size decimals ⌝ }
+fn arc_at(a: &[i32]) -> Arc
+    requires { ⌜ length (now a) ≡ R.rowWidth ⌝ }
+    ensures { λ r. ⌜ r ≡ P.arcAt (now (a .entry)) ⌝ }
 {
-    match kind {
-        kind::COMMENT => Command::Comment,
-        kind::M48 => Command::M48,
-        kind::METRIC => Command::Metric,
-        kind::INCH => Command::Inch,
-        kind::DECLARE => Command::Declare(tool, size),
-        kind::PERCENT => Command::Percent,
-        kind::G05 => Command::G05,
-        kind::G00 => Command::G00(to),
-        kind::SELECT => Command::Select(tool),
-        kind::HIT => Command::Hit(to),
-        kind::M15 => Command::M15,
-        kind::M16 => Command::M16,
-        kind::G01 => Command::G01(to),
-        kind::G02 => Command::G02(Arc {
-            to: to,
-            radius: size,
-            decimals: decimals,
-        }),
-        kind::G03 => Command::G03(Arc {
-            to: to,
-            radius: size,
-            decimals: decimals,
-        }),
-        _ => Command::M30,
+    Arc {
+        to: point_at(a, TO),
+        radius: natural(a, SIZE),
+        decimals: natural(a, DECIMALS),
     }
 }
 
+// Of its numbers, those that its kind carries.
 fn command_at(a: &[i32]) -> Command
     requires { ⌜ length (now a) ≡ R.rowWidth ⌝ }
     ensures { λ r. ⌜ r ≡ R.commandAt (now (a .entry)) ⌝ }
 {
-    let to = point_at(a, TO);
-    command_of(
-        natural(a, KIND),
-        natural(a, TOOL),
-        to,
-        natural(a, SIZE),
-        natural(a, DECIMALS),
-    )
+    match natural(a, KIND) {
+        kind::COMMENT => Command::Comment,
+        kind::M48 => Command::M48,
+        kind::METRIC => Command::Metric,
+        kind::INCH => Command::Inch,
+        kind::DECLARE => Command::Declare(natural(a, TOOL), natural(a, SIZE)),
+        kind::PERCENT => Command::Percent,
+        kind::G05 => Command::G05,
+        kind::G00 => Command::G00(point_at(a, TO)),
+        kind::SELECT => Command::Select(natural(a, TOOL)),
+        kind::HIT => Command::Hit(point_at(a, TO)),
+        kind::M15 => Command::M15,
+        kind::M16 => Command::M16,
+        kind::G01 => Command::G01(point_at(a, TO)),
+        kind::G02 => Command::G02(arc_at(a)),
+        kind::G03 => Command::G03(arc_at(a)),
+        _ => Command::M30,
+    }
 }
 
 // ---- the state's ten numbers
