@@ -1,6 +1,7 @@
 // Numbers of millionths as text: how long it is, and its bytes, from place `at` on as crate text has it.
 ghost use mathlib.Core.Path.{_≡_};
 ghost use Prim.Native.Nat.{ℕ, _+_, _%_, _≤_, _<_, min};
+ghost use mathlib.Core.List.{[], _∷_};
 ghost use lib.ListN.{length};
 ghost use Rattle.rules.specs.Writing.{lastDigits, widthOf, placesOf, fractionText, numberText, radiusText, coordinateText};
 ghost use Rattle.rules.specs.Numbers.{maxPlaces};
@@ -8,7 +9,6 @@ ghost use Rattle.text.specs.Wrote.{Wrote};
 use points::size;
 use rules::MAX_PLACES;
 use text::put_byte;
-use text::put_word;
 
 const MILLION: u32 = 1000000;
 
@@ -101,25 +101,26 @@ pub fn coordinate_length(x: i32) -> usize
 // ---- bytes
 
 // The last digit of n.
-fn digit(n: u32) -> u8
-    ensures { λ r. ⌜ r ≡ 48 + n % 10 ⌝ }
+fn put_digit(b: &mut [u8], at: usize, n: u32) -> usize
+    ensures { λ r. ⌜ Wrote (now (b .entry)) at ((48 + n % 10) ∷ []) (now (b .exit)) r ⌝ }
 {
-    (48 + n % 10) as u8
+    put_byte(b, at, (48 + n % 10) as u8)
 }
 
 // The digits before the point, three at most.
 fn put_whole(b: &mut [u8], at: usize, w: u32) -> usize
     ensures { λ r. ⌜ Wrote (now (b .entry)) at (lastDigits (widthOf w) w) (now (b .exit)) r ⌝ }
 {
-    let ones = digit(w);
     if w < 10 {
-        return put_byte(b, at, ones);
+        return put_digit(b, at, w);
     }
-    let tens = digit(w / 10);
     if w < 100 {
-        return put_word(b, at, &[tens, ones]);
+        let ones = put_digit(b, at, w / 10);
+        return put_digit(b, ones, w);
     }
-    put_word(b, at, &[digit(w / 100), tens, ones])
+    let tens = put_digit(b, at, w / 100);
+    let ones = put_digit(b, tens, w / 10);
+    put_digit(b, ones, w)
 }
 
 // No point for a whole number. The decimals come out first to last, and end where nothing is left.
@@ -134,7 +135,7 @@ fn put_fraction(b: &mut [u8], at: usize, millionths: u32) -> usize
     let mut rest = millionths;
     while 0 < rest {
         let tenfold = 10 * rest;
-        end = put_byte(b, end, digit(tenfold / MILLION));
+        end = put_digit(b, end, tenfold / MILLION);
         rest = tenfold % MILLION;
     }
     end
@@ -153,7 +154,7 @@ fn put_decimals(b: &mut [u8], at: usize, count: usize, millionths: u32) -> usize
     let mut left = count;
     while 0 < left {
         let tenfold = 10 * rest;
-        next = put_byte(b, next, digit(tenfold / MILLION));
+        next = put_digit(b, next, tenfold / MILLION);
         rest = tenfold % MILLION;
         left -= 1;
     }

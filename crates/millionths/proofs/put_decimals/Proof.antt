@@ -24,9 +24,8 @@ loop-holds c = (omega arith, omega arith, λ _ _ w. w)
 
 loop-again : tie.Need-loop-again Inv-loop μ-loop
 loop-again c =
-    let l = c .before .before .before .before .before .before .loop in
-    let w = rw (c .before .before .before .digit .ensures) at (c .before .before .put-byte2 .ensures) in
-    (omega arith, omega arith, rest-turn _ (l .inv .2) _ (decimals-turn (l .rest) (omega arith) (omega arith)) w)
+    let l = c .before .before .before .before .before .loop in
+    (omega arith, omega arith, rest-turn _ (l .inv .2) _ (decimals-turn (l .rest) (omega arith) (omega arith)) (c .before .before .put-digit .ensures))
 
 same-length : tie.Need-same-length Inv-loop μ-loop
 same-length c = rest-length _ (c .before .loop .inv .2) ∙ wrote-length (c .before .before .before .before .put-byte .ensures)
@@ -47,7 +46,6 @@ put-decimals-spec =
     (λ c κs. search needs)
     loop-holds
     (λ c. search needs)
-    (λ c κs. search needs)
     (λ c κs. search needs)
     (λ c. search needs)
     (λ c. search needs)

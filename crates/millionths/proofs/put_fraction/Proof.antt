@@ -27,15 +27,14 @@ mul-tenfold : tie.Need-mul-tenfold Inv-loop μ-loop
 mul-tenfold c = omega arith
 
 loop-less : tie.Need-loop-less Inv-loop μ-loop
-loop-less c = let l = c .before .before .before .before .before .before .loop in omega (arith, places-turn (l .rest) (omega arith) (l .inv .0))
+loop-less c = let l = c .before .before .before .before .before .loop in omega (arith, places-turn (l .rest) (omega arith) (l .inv .0))
 
 loop-again : tie.Need-loop-again Inv-loop μ-loop
 loop-again c =
-    let t = c .before .before .before .before .before in
+    let t = c .before .before .before .before in
     let l = t .before .loop in
     let p = places-turn (l .rest) (t .loop-test .taken) (l .inv .0) in
-    let w = rw (c .before .before .before .digit .ensures) at (c .before .before .put-byte2 .ensures) in
-    (omega arith, rest-turn _ (l .inv .1) _ (decimals-turn (l .rest) (p .0) (p .1)) w)
+    (omega arith, rest-turn _ (l .inv .1) _ (decimals-turn (l .rest) (p .0) (p .1)) (c .before .before .put-digit .ensures))
 
 same-length : tie.Need-same-length Inv-loop μ-loop
 same-length c = rest-length _ (c .before .loop .inv .1) ∙ wrote-length (c .before .before .before .before .put-byte .ensures)
@@ -58,7 +57,6 @@ put-fraction-spec =
     (λ c κs. search needs)
     loop-holds
     mul-tenfold
-    (λ c κs. search needs)
     (λ c κs. search needs)
     loop-less
     loop-again
