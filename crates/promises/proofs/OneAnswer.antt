@@ -58,16 +58,16 @@ use Rattle.line.proofs.answer.Kinds as line-answer-kinds
 use Rattle.line.proofs.answer.Reads as line-answer-reads
 use Rattle.row.proofs.look.Kinds as row-look-kinds
 use Rattle.row.proofs.look.Reads as row-look-reads
-use Rattle.row.proofs.command.Kinds as row-command-kinds
-use Rattle.row.proofs.command.Reads as row-command-reads
+use Rattle.row.proofs.untested_command.Kinds as row-untested-command-kinds
+use Rattle.row.proofs.untested_command.Reads as row-untested-command-reads
 use Rattle.table.proofs.sizes_fit.Kinds as table-sizes-fit-kinds
 use Rattle.table.proofs.sizes_fit.Reads as table-sizes-fit-reads
 use Rattle.table.proofs.is_line.Kinds as table-is-line-kinds
 use Rattle.table.proofs.is_line.Reads as table-is-line-reads
 use Rattle.table.proofs.look.Kinds as table-look-kinds
 use Rattle.table.proofs.look.Reads as table-look-reads
-use Rattle.table.proofs.command.Kinds as table-command-kinds
-use Rattle.table.proofs.command.Reads as table-command-reads
+use Rattle.table.proofs.untested_command.Kinds as table-untested-command-kinds
+use Rattle.table.proofs.untested_command.Reads as table-untested-command-reads
 use Rattle.table.proofs.following.Kinds as table-following-kinds
 use Rattle.table.proofs.following.Reads as table-following-reads
 use Rattle.table.proofs.state_before.Kinds as table-state-before-kinds
@@ -231,8 +231,8 @@ line-answer κs a x y e f p q = same p q
 pub row-look : OneAnswer 1 row-look-kinds.ps row-look-kinds.r row-look-reads.Post
 row-look κs a x y e f p q = same p q
 
-pub row-command : OneAnswer 1 row-command-kinds.ps row-command-kinds.r row-command-reads.Post
-row-command κs a x y e f p q = same p q
+pub row-untested-command : OneAnswer 1 row-untested-command-kinds.ps row-untested-command-kinds.r row-untested-command-reads.Post
+row-untested-command κs a x y e f p q = same p q
 
 -- ---- crate table
 
@@ -245,8 +245,8 @@ table-is-line κs a x y e f p q = same p q
 pub table-look : OneAnswer 1 table-look-kinds.ps table-look-kinds.r table-look-reads.Post
 table-look κs a x y e f p q = same p q
 
-pub table-command : OneAnswer 1 table-command-kinds.ps table-command-kinds.r table-command-reads.Post
-table-command κs a x y e f p q = same p q
+pub table-untested-command : OneAnswer 1 table-untested-command-kinds.ps table-untested-command-kinds.r table-untested-command-reads.Post
+table-untested-command κs a x y e f p q = same p q
 
 pub table-following : OneAnswer 1 table-following-kinds.ps table-following-kinds.r table-following-reads.Post
 table-following κs a x y e f p q = same p q

@@ -24,8 +24,8 @@ use rules::phase;
 use rules::unit;
 use tools::Tools;
 
-// The places of a row's numbers: the command's five, the ten of the state after it, and last the decimals of the command's radius. A point
-// takes two, the words four.
+// The places of a row's numbers: the command's five, the ten of the state after it, and last the decimals of the command's
+// radius. A point takes two, the words four.
 const KIND: usize = 0;
 
 const TOOL: usize = 1;
@@ -340,10 +340,10 @@ pub fn look(a: &[i32]) -> Looked
     row_of(a)
 }
 
-/// The command in a row's numbers, which aren't tested: it is the row's where they are a row. Too few or too many have none,
-/// as a comment has.
-pub fn command(a: &[i32]) -> Command
-    ensures { λ r. ⌜ r ≡ S.commandIn (now (a .entry)) ⌝ }
+/// The command in a row's numbers, of which nothing is tested: the row's own where they are a row. In too few or too many
+/// there is none, as in a comment.
+pub fn untested_command(a: &[i32]) -> Command
+    ensures { λ r. ⌜ r ≡ S.untestedIn (now (a .entry)) ⌝ }
 {
     if a.len() == ROW_WIDTH {
         return command_at(a);

@@ -1,5 +1,5 @@
--- A row looked at: inside it is the look at its own numbers, past the end there is none. And the entries of a table are the
--- looks at its rows.
+-- A row looked at: inside it is the look at its own numbers, past the end there is none; so for whatever is said of a row. And the
+-- entries of a table are the looks at its rows.
 use mathlib.Core.Path.{_≡_, refl, sym, ap, _∙_}
 use mathlib.Core.Bool.{Bool, true, false, cond}
 use mathlib.Core.List.{List, _∷_}
@@ -24,44 +24,30 @@ use Rattle.rules.specs.Editing.{entryAt, stateIn, beforeLine}
 use Rattle.rules.specs.Ranges.{StateOk, CommandOk}
 use Rattle.laws.proofs.Rows.{look-holds}
 use Rattle.laws.proofs.Entries.{entries-drop}
-use Rattle.row.specs.Row.{looked, commandIn}
-use Rattle.table.specs.Table.{numbersAt, lookAt, commandOf, rowAt}
+use Rattle.row.specs.Row.{ofRow}
+use Rattle.table.specs.Table.{numbersAt, atRow, lookAt, untestedAt, rowAt}
 
 module _ (t : List ℤ) (i : ℕ) where
   many : rowWidth * i + rowWidth ≤ length t → length (numbersAt t i) ≡ rowWidth
   many h = length-take-le rowWidth (drop (rowWidth * i) t) (simp length-drop (omega arith))
 
-  pub look-inside : rowWidth * i + rowWidth ≤ length t → lookAt t i ≡ lookOf (numbersAt t i)
+  -- whatever is said of a row's numbers
+  module _ {A : Type 0} (f : List ℤ → A) (z : A) where
+    inside-row : rowWidth * i + rowWidth ≤ length t → atRow f z t i ≡ f (numbersAt t i)
+    inside-row h = rw (le-leb (rowWidth * i + rowWidth) (length t) h)
+
+    -- as the code has it
+    pub row-past : length t / rowWidth ≤ i → z ≡ atRow f z t i
+    row-past h = rw (lt-leb (rowWidth * i + rowWidth) (length t) (omega arith))
+
+    pub row-part : {r : A} → i < length t / rowWidth → r ≡ ofRow f z (take (rowWidth * i + rowWidth - rowWidth * i) (drop (rowWidth * i) t)) → r ≡ atRow f z t i
+    row-part h e =
+        let g : rowWidth * i + rowWidth - rowWidth * i ≡ rowWidth = omega arith in
+        e ∙ rw (g, eq-eqb (length (numbersAt t i)) rowWidth (many (omega arith))) (sym (inside-row (omega arith)))
+
+  look-inside : rowWidth * i + rowWidth ≤ length t → lookAt t i ≡ lookOf (numbersAt t i)
   unfolding lookAt
-  look-inside h = rw (le-leb (rowWidth * i + rowWidth) (length t) h)
-
-  pub look-outside : length t < rowWidth * i + rowWidth → lookAt t i ≡ Bad
-  unfolding lookAt
-  look-outside h = rw (lt-leb (rowWidth * i + rowWidth) (length t) h)
-
-  command-inside : rowWidth * i + rowWidth ≤ length t → commandOf t i ≡ commandAt (numbersAt t i)
-  unfolding commandOf
-  command-inside h = rw (le-leb (rowWidth * i + rowWidth) (length t) h)
-
-  -- the same, as the code has it
-  pub look-past : length t / rowWidth ≤ i → Bad ≡ lookAt t i
-  look-past h = sym (look-outside (omega arith))
-
-  pub look-part : {l : Looked} → i < length t / rowWidth → l ≡ looked (take (rowWidth * i + rowWidth - rowWidth * i) (drop (rowWidth * i) t)) → l ≡ lookAt t i
-  unfolding looked
-  look-part h e =
-      let f : rowWidth * i + rowWidth - rowWidth * i ≡ rowWidth = omega arith in
-      e ∙ rw (f, eq-eqb (length (numbersAt t i)) rowWidth (many (omega arith))) (sym (look-inside (omega arith)))
-
-  pub command-past : length t / rowWidth ≤ i → Comment ≡ commandOf t i
-  unfolding commandOf
-  command-past h = rw (lt-leb (rowWidth * i + rowWidth) (length t) (omega arith))
-
-  pub command-part : {c : Command} → i < length t / rowWidth → c ≡ commandIn (take (rowWidth * i + rowWidth - rowWidth * i) (drop (rowWidth * i) t)) → c ≡ commandOf t i
-  unfolding commandIn
-  command-part h e =
-      let f : rowWidth * i + rowWidth - rowWidth * i ≡ rowWidth = omega arith in
-      e ∙ rw (f, eq-eqb (length (numbersAt t i)) rowWidth (many (omega arith))) (sym (command-inside (omega arith)))
+  look-inside = inside-row lookOf Bad
 
   -- the command in a row's numbers is the row's where they are a row
   module _ (inside : rowWidth * i + rowWidth ≤ length t) (r : Row Command State) where
@@ -69,9 +55,9 @@ module _ (t : List ℤ) (i : ℕ) where
     command-found true e = cc
     command-found false e = absurd (let z : _≡_ {A = ℕ} 0 1 = cc in omega arith)
 
-    pub command-holds : entryOf (lookAt t i) ≡ holds r → commandOf t i ≡ r .command
-    unfolding lookOf
-    command-holds e = command-inside inside ∙ command-found (rowTest (numbersAt t i)) (ap entryOf (sym (look-inside inside)) ∙ e)
+    pub command-holds : entryOf (lookAt t i) ≡ holds r → untestedAt t i ≡ r .command
+    unfolding lookOf untestedAt
+    command-holds e = inside-row commandAt Comment inside ∙ command-found (rowTest (numbersAt t i)) (ap entryOf (sym (look-inside inside)) ∙ e)
 
   -- a row found whole lies inside, and is in range
   module _ (c : Command) (s : State) where

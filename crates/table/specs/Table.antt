@@ -18,13 +18,17 @@ use Rattle.rules.specs.Rows.{rowWidth, commandAt, lookOf, entryOf}
 abbrev pub numbersAt : List ℤ → ℕ → List ℤ
 numbersAt t i = take rowWidth (drop (rowWidth * i) t)
 
+-- what f says of them, and z past the end
+abbrev pub atRow : {A : Type 0} → (List ℤ → A) → A → List ℤ → ℕ → A
+atRow f z t i = cond (leb (rowWidth * i + rowWidth) (length t)) (f (numbersAt t i)) z
+
 -- the row after i others; past the end there is none
 unfoldable pub lookAt : List ℤ → ℕ → Looked
-lookAt t i = cond (leb (rowWidth * i + rowWidth) (length t)) (lookOf (numbersAt t i)) Bad
+lookAt t i = atRow lookOf Bad t i
 
--- the command in its numbers, untested; past the end there is none, as in a comment
-unfoldable pub commandOf : List ℤ → ℕ → Command
-commandOf t i = cond (leb (rowWidth * i + rowWidth) (length t)) (commandAt (numbersAt t i)) Comment
+-- the command in its numbers, of which nothing is tested; past the end there is none, as in a comment
+unfoldable pub untestedAt : List ℤ → ℕ → Command
+untestedAt t i = atRow commandAt Comment t i
 
 -- the row of line k, as it is found; lines count from 1
 abbrev pub rowAt : List ℤ → ℕ → Entry Command State

@@ -52,14 +52,14 @@ pub fn look(table: &[i32], i: usize) -> Looked
 }
 
 /// The command in row i, of which nothing is tested: for a row that was looked at before. Past the end there is none.
-pub fn command(table: &[i32], i: usize) -> Command
-    ensures { λ r. ⌜ r ≡ S.commandOf (now (table .entry)) i ⌝ }
+pub fn untested_command(table: &[i32], i: usize) -> Command
+    ensures { λ r. ⌜ r ≡ S.untestedAt (now (table .entry)) i ⌝ }
 {
     if table.len() / ROW_WIDTH <= i {
         return Command::Comment;
     }
     let first = ROW_WIDTH * i;
-    row::command(&table[first..first + ROW_WIDTH])
+    row::untested_command(&table[first..first + ROW_WIDTH])
 }
 
 /// Row i, where it follows from the state before it.

@@ -22,7 +22,7 @@ use Rattle.rules.specs.Reading.{Rows}
 use Rattle.rules.specs.Writing.{lineText, textOfRows, longestLine, followFrom}
 use Rattle.rules.proofs.Same.{same-state-iff}
 use Rattle.laws.proofs.Entries.{entries-length}
-use Rattle.table.specs.Table.{lookAt, commandOf, followed}
+use Rattle.table.specs.Table.{lookAt, untestedAt, followed}
 use Rattle.table.proofs.Looks.{command-holds, entries-cons}
 use Rattle.writer.specs.Walk.{bytesFrom, textFrom}
 
@@ -100,7 +100,7 @@ module _ (t : List ℤ) (n i : ℕ) where
   unfolding textFrom
   text-over h = let e : n - i ≡ 0 = omega arith in rw e
 
-  pub text-next : i < n → {c : Command} → c ≡ commandOf t i → textFrom t i (n - i) ≡ lineText c ++ textFrom t (i + 1) (n - (i + 1))
+  pub text-next : i < n → {c : Command} → c ≡ untestedAt t i → textFrom t i (n - i) ≡ lineText c ++ textFrom t (i + 1) (n - (i + 1))
   unfolding textFrom
   text-next h g = let e : n - i ≡ suc (n - (i + 1)) = omega arith in rw (e, g)
 

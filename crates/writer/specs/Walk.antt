@@ -9,7 +9,7 @@ use Rattle.rules.specs.declared.Answer.{Answer}
 use Rattle.rules.specs.declared.Answer.the-variants.{Done, Refused}
 use Rattle.rules.specs.Reading.{Rows}
 use Rattle.rules.specs.Writing.{lineText, textOfRows}
-use Rattle.table.specs.Table.{commandOf}
+use Rattle.table.specs.Table.{untestedAt}
 
 -- the bytes of the text of rows, after b others
 abbrev pub bytesFrom : ℕ → Verdict Rows Refusal → Answer
@@ -19,4 +19,4 @@ bytesFrom b (refused e i) = Refused e i
 -- the text of the commands in m rows, after i others
 unfoldable pub textFrom : List ℤ → ℕ → ℕ → List ℕ
 textFrom t i zero = []
-textFrom t i (suc m) = lineText (commandOf t i) ++ textFrom t (i + 1) m
+textFrom t i (suc m) = lineText (untestedAt t i) ++ textFrom t (i + 1) m

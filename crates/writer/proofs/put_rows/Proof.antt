@@ -27,7 +27,7 @@ loop-less c = omega arith
 loop-again : tie.Need-loop-again Inv-loop μ-loop
 loop-again c =
     let l = c .before .before .before .before .before in
-    rest-turn _ (l .before .loop .inv) _ (text-next _ _ _ (l .loop-test .taken) (c .before .before .before .command .ensures)) (c .before .before .put-line .ensures)
+    rest-turn _ (l .before .loop .inv) _ (text-next _ _ _ (l .loop-test .taken) (c .before .before .before .untested-command .ensures)) (c .before .before .put-line .ensures)
 
 same-length : tie.Need-same-length Inv-loop μ-loop
 same-length c = rest-length _ (c .before .loop .inv)
