@@ -3,12 +3,12 @@
 # copy of plain Rust, which is then compared with the true one. The comparison
 # must fail on every copy (and pass on the unchanged one).
 #
-#   compare/broken.sh [COUNT]      comparisons for each copy, 150000 unless given;
+#   compare/broken.sh [COUNT]      comparisons for each copy, 180000 unless given;
 #                                  0 only looks whether each mistake still has its place (the gate does)
 set -euo pipefail
 
 here=$(cd "$(dirname "$0")" && pwd)
-count=${1:-150000}
+count=${1:-180000}
 out=$(mktemp -d)
 trap 'rm -rf "$out"' EXIT
 
@@ -126,8 +126,8 @@ mistake 'too many lines known only at the LF' 'need(line as usize <= MAX_LINES, 
         need(line as usize <= MAX_LINES, refused(refuse::LINE_COUNT, line))?;'
 mistake '14 at the last line' '(refuse::UNFINISHED, line + 1)' '(refuse::UNFINISHED, line)'
 mistake 'end not asked for' 'need(state.phase == phase::ENDED, refused(refuse::UNFINISHED, line + 1))?;' ''
-mistake 'short table found out first' 'let rows = rows_of(file, revision)?;' \
-    'need(!table.is_empty(), refused(refuse::TOO_SHORT, 0))?; let rows = rows_of(file, revision)?;'
+mistake 'short table found out first' 'let rows = rows_of(file, revision, &mut made)?;' \
+    'need(!table.is_empty(), refused(refuse::TOO_SHORT, 0))?; let rows = rows_of(file, revision, &mut made)?;'
 mistake 'rows written before the table is found short' 'let lent = table.get_mut(..rows.len())' \
     'if let (Some(first), false) = (table.first_mut(), rows.is_empty()) { *first = rows[0]; }
     let lent = table.get_mut(..rows.len())'
@@ -351,13 +351,13 @@ mistake '17 before 16' 'need((1..=n).contains(&line), refused(refuse::LINE_NUMBE
     let ends_line = |byte: &u8| matches!(byte, b'\''\n'\'' | b'\''\r'\'');' 'let ends_line = |byte: &u8| matches!(byte, b'\''\n'\'' | b'\''\r'\'');
     need(!text.iter().any(ends_line), refused(refuse::LINE_END, 0))?;
     need((1..=n).contains(&line), refused(refuse::LINE_NUMBER, 0))?;'
-mistake 'edited row tested after the new line' 'let (_, mut old) = row_at(rows, line)?;
+mistake 'edited row tested after the new line' 'let (old_command, mut old) = row_at(rows, line)?;
     let at = line as u32;
     let command =
         Command::of_line(text, revision).map_err(|number| refused_text(number, at, text))?;' 'let at = line as u32;
     let command =
         Command::of_line(text, revision).map_err(|number| refused_text(number, at, text))?;
-    let (_, mut old) = row_at(rows, line)?;'
+    let (old_command, mut old) = row_at(rows, line)?;'
 mistake 'stops at a command of the same kind' 'let mut meeting = line;' \
     'let mut meeting = line; if rows[(line - 1) * ROW] == command.numbers()[0] { old = state; }'
 mistake 'stops where the points agree' 'while state != old && meeting < n' \
@@ -404,6 +404,144 @@ mistake 'short block before the rows' 'let before = state_before(rows, line)?;
     let (command, after)' 'need(hole.len() >= HOLE, refused(refuse::TOO_SHORT, 0))?;
     let before = state_before(rows, line)?;
     let (command, after)'
+
+# Counts: what is counted, for which tool.
+mistake 'routs counted as hits' 'let first = if kind == HIT { HITS } else { ROUTS };' 'let first = HITS;'
+mistake 'hits counted as routs' 'let first = if kind == HIT { HITS } else { ROUTS };' 'let first = ROUTS;'
+mistake 'clockwise arcs counted as hits' 'if kind == HIT { HITS }' 'if kind == HIT || kind == 13 { HITS }'
+mistake 'tool 0 counted as tool 1' 'Some([kind, tool @ 1..=MAX_TOOL, ..]) => (kind, tool),' \
+    'Some([kind, tool @ 0..=MAX_TOOL, ..]) => (kind, tool.max(1)),'
+mistake "tool 0's routs counted as tool 99's hits" 'Some([kind, tool @ 1..=MAX_TOOL, ..]) => (kind, tool),' \
+    'Some([kind, tool @ 0..=MAX_TOOL, ..]) if kind != HIT || tool != 0 => (kind, tool),'
+mistake "an edit's old hit of tool 0 taken from tool 1" 'gone.add(hole_of(old_command, &before, &old));' \
+    'gone.add(hole_of(old_command, &before, &State { tool: old.tool.max(1), ..old }));'
+mistake 'last tool not counted' 'Some([kind, tool @ 1..=MAX_TOOL, ..]) => (kind, tool),' \
+    'Some([kind, tool @ 1..=98, ..]) => (kind, tool),'
+mistake 'tools 50 apart counted together' 'self.numbers[first + tool as usize - 1] += 1;' \
+    'self.numbers[first + (tool as usize - 1) % 50] += 1;'
+
+# Counts in reading.
+mistake 'reading adds to what stood there' 'lent_counts.copy_from_slice(&made.numbers);' \
+    'for (count, made) in lent_counts.iter_mut().zip(&made.numbers) { *count = count.wrapping_add(*made); }'
+mistake 'counts of tools without holes not cleared' 'lent_counts.copy_from_slice(&made.numbers);' \
+    'for (count, &made) in lent_counts.iter_mut().zip(&made.numbers) { if made > 0 { *count = made; } }'
+mistake "last tool's routs not handed out" 'lent_counts.copy_from_slice(&made.numbers);' \
+    'lent_counts[..COUNTS - 1].copy_from_slice(&made.numbers[..COUNTS - 1]);'
+mistake 'numbers behind the counts cleared' 'lent_counts.copy_from_slice(&made.numbers);' \
+    'lent_counts.copy_from_slice(&made.numbers); counts[COUNTS..].fill(0);'
+mistake "short block before the file's refusals" 'let rows = rows_of(file, revision, &mut made)?;' \
+    'need(counts.len() >= COUNTS, refused(refuse::TOO_SHORT, 0))?; let rows = rows_of(file, revision, &mut made)?;'
+mistake 'short block filled as far as it goes' 'let lent_counts = counts.get_mut(..COUNTS).ok_or(refused(refuse::TOO_SHORT, 0))?;' \
+    'let room = counts.len().min(COUNTS); let lent_counts = &mut counts[..room];' \
+    'lent_counts.copy_from_slice(&made.numbers);' 'lent_counts.copy_from_slice(&made.numbers[..room]);'
+mistake 'block of 197 let pass' 'let lent_counts = counts.get_mut(..COUNTS).ok_or(refused(refuse::TOO_SHORT, 0))?;' \
+    'let room = if counts.len() == COUNTS - 1 { COUNTS - 1 } else { COUNTS };
+    let lent_counts = counts.get_mut(..room).ok_or(refused(refuse::TOO_SHORT, 0))?;' \
+    'lent_counts.copy_from_slice(&made.numbers);' 'lent_counts.copy_from_slice(&made.numbers[..room]);'
+mistake 'counts handed out though the table is short' 'let lent = table.get_mut(..rows.len())' \
+    'if let Some(lent) = counts.get_mut(..COUNTS) { lent.copy_from_slice(&made.numbers); }
+    let lent = table.get_mut(..rows.len())'
+mistake 'table written though the block is short' 'let lent_counts = counts.get_mut(..COUNTS).ok_or(refused(refuse::TOO_SHORT, 0))?;
+    lent.copy_from_slice(&rows);' 'lent.copy_from_slice(&rows);
+    let lent_counts = counts.get_mut(..COUNTS).ok_or(refused(refuse::TOO_SHORT, 0))?;'
+mistake 'counts cleared by a refused reading' 'let rows = rows_of(file, revision, &mut made)?;' \
+    'if let (Some(count), Some(_)) = (counts.first_mut(), file.first()) { *count = 0; }
+    let rows = rows_of(file, revision, &mut made)?;'
+
+# Counts in an edit: the holes that go and come.
+mistake "new row's tool for the old hole" 'gone.add(hole_of(command, &old, &old_here));' 'gone.add(hole_of(command, &old, &next));'
+mistake "old row's tool for the new hole" 'made.add(hole_of(command, &state, &next));' 'made.add(hole_of(command, &state, &old_here));'
+mistake 'new command for the old hole' 'gone.add(hole_of(old_command, &before, &old));' 'gone.add(hole_of(command, &before, &old));'
+mistake 'old command for the new hole' 'gone.add(hole_of(old_command, &before, &old));
+    made.add(hole_of(command, &before, &state));' 'gone.add(hole_of(old_command, &before, &old));
+    made.add(hole_of(old_command, &before, &state));'
+mistake "edited line's new tool for its old hole" 'gone.add(hole_of(old_command, &before, &old));' \
+    'gone.add(hole_of(old_command, &before, &state));'
+mistake 'later rows not counted' 'gone.add(hole_of(command, &old, &old_here));
+        made.add(hole_of(command, &state, &next));' ''
+mistake 'holes that stay left where they are' 'gone.add(hole_of(command, &old, &old_here));
+        made.add(hole_of(command, &state, &next));' 'if old_here.tool != next.tool {
+            gone.add(hole_of(command, &old, &old_here));
+            made.add(hole_of(command, &state, &next));
+        }'
+mistake "meeting line's hole left where it is" 'gone.add(hole_of(command, &old, &old_here));
+        made.add(hole_of(command, &state, &next));' 'if old_here != next {
+            gone.add(hole_of(command, &old, &old_here));
+            made.add(hole_of(command, &state, &next));
+        }'
+mistake 'old holes not taken away' '*count = *count - gone + made;' '*count = *count + made;'
+mistake 'new holes not added' '*count = *count - gone + made;' '*count = *count - gone;'
+mistake 'counts no more than 1,000 afterwards' '*count = *count - gone + made;' '*count = (*count - gone + made).min(MAX_COUNT);'
+
+# Counts in an edit: their refusals.
+mistake 'counts tested after adding back' 'need(gone.can_leave(counts), refused(refuse::TABLE, 0))?;' \
+    'let with = |(&count, made): (&u32, &u32)| if count > MAX_COUNT { count } else { (count + made).min(MAX_COUNT) };
+    let sums: Vec<u32> = counts.iter().zip(&made.numbers).map(with).collect();
+    need(gone.can_leave(&sums), refused(refuse::TABLE, 0))?;'
+mistake 'counts over 1,000 let pass' '(count <= MAX_COUNT) & (count >= gone)' 'count >= gone'
+mistake 'counts over 1,000 let pass for routs' 'counts.iter().zip(&self.numbers).map(fits)' \
+    'counts.iter().zip(&self.numbers).enumerate().map(|(at, both)| fits(both) | (at >= ROUTS && both.0 >= both.1))'
+mistake 'counts over 1,000 let pass outside the span' '(count <= MAX_COUNT) & (count >= gone)' \
+    '(gone == 0) | (count <= MAX_COUNT) & (count >= gone)'
+mistake 'counts too small let pass' '(count <= MAX_COUNT) & (count >= gone)' 'count <= MAX_COUNT'
+mistake 'counts too small let pass for routs' 'counts.iter().zip(&self.numbers).map(fits)' \
+    'counts.iter().zip(&self.numbers).enumerate().map(|(at, both)| fits(both) | (at >= ROUTS && *both.0 <= MAX_COUNT))'
+mistake 'a count of 1,000 refused' 'count <= MAX_COUNT' 'count < MAX_COUNT'
+mistake 'a count of 1,001 let pass' 'count <= MAX_COUNT' 'count <= MAX_COUNT + 1'
+mistake 'a count of just what is taken refused' 'count >= gone)' '(gone == 0 || count > gone))'
+mistake 'counts tested without their sign' '(count <= MAX_COUNT)' '(count as i32 <= MAX_COUNT as i32)'
+mistake 'last count not tested' 'counts.iter().zip(&self.numbers).map(fits)' 'counts[..COUNTS - 1].iter().zip(&self.numbers).map(fits)'
+mistake 'numbers behind the counts tested' 'let counts = counts.get_mut(..COUNTS)' \
+    'need(counts.iter().skip(COUNTS).all(|&count| count <= MAX_COUNT), refused(refuse::TABLE, 0))?;
+    let counts = counts.get_mut(..COUNTS)'
+mistake 'counts over 1,000 afterwards refused' 'need(gone.can_leave(counts), refused(refuse::TABLE, 0))?;' \
+    'need(gone.can_leave(counts), refused(refuse::TABLE, 0))?;
+    let after = |at: usize| counts[at] - gone.numbers[at] + made.numbers[at];
+    need((0..COUNTS).all(|at| after(at) <= MAX_COUNT), refused(refuse::TABLE, 0))?;'
+mistake '18 for counts at the edited line' 'need(gone.can_leave(counts), refused(refuse::TABLE, 0))?;' \
+    'need(gone.can_leave(counts), refused(refuse::TABLE, at))?;'
+mistake '18 for counts before 14' 'need(agreed ||' 'need(counts.len() < COUNTS || gone.can_leave(counts), refused(refuse::TABLE, 0))?;
+    need(agreed ||'
+mistake '18 for counts before the rows' 'let n = rows.len() / ROW;
+    let before' 'need(counts.len() < COUNTS || Counts::default().can_leave(counts), refused(refuse::TABLE, 0))?;
+    let n = rows.len() / ROW;
+    let before'
+mistake "short block before the edit's refusals" 'let n = rows.len() / ROW;
+    let before' 'need(counts.len() >= COUNTS, refused(refuse::TOO_SHORT, 0))?;
+    let n = rows.len() / ROW;
+    let before'
+mistake 'short block after 18 for counts' 'let counts = counts.get_mut(..COUNTS)' \
+    'need(gone.can_leave(counts), refused(refuse::TABLE, 0))?;
+    let counts = counts.get_mut(..COUNTS)'
+mistake 'counts written, then refused' 'need(gone.can_leave(counts), refused(refuse::TABLE, 0))?;' \
+    'for (count, gone) in counts.iter_mut().zip(&gone.numbers) {
+        need(*count <= MAX_COUNT && *count >= *gone, refused(refuse::TABLE, 0))?;
+        *count -= gone;
+    }' '*count = *count - gone + made;' '*count += made;'
+mistake 'row written, then refused for its counts' 'need(gone.can_leave(counts), refused(refuse::TABLE, 0))?;' \
+    'rows[(line - 1) * ROW..][..ROW].copy_from_slice(&encode(command, &span[0]));
+    need(gone.can_leave(counts), refused(refuse::TABLE, 0))?;'
+
+# The questions for counts.
+mistake 'hits told for routs' 'answer(try_count(counts, ROUTS, tool))' 'answer(try_count(counts, HITS, tool))'
+mistake 'tool 99 not asked for' '&tool), refused(refuse::RANGE, 0))?;' '&tool) && tool != 99, refused(refuse::RANGE, 0))?;'
+mistake 'tool 100 asked for' '&tool), refused(refuse::RANGE, 0))?;' '&tool) || tool == 100, refused(refuse::RANGE, 0))?;' \
+    'lent[first + tool as usize - 1]' 'lent[(first + tool as usize - 1) % COUNTS]'
+mistake 'tool asked for in eight bits' 'need((1..=MAX_TOOL as u32).contains(&tool), refused(refuse::RANGE, 0))?;
+    let lent' 'let tool = u32::from(tool as u8);
+    need((1..=MAX_TOOL as u32).contains(&tool), refused(refuse::RANGE, 0))?;
+    let lent'
+mistake 'a column for 7 of a question' '&tool), refused(refuse::RANGE, 0))?;' '&tool), (refuse::RANGE, 0, 1))?;'
+mistake 'short block before the tool' 'need((1..=MAX_TOOL as u32).contains(&tool), refused(refuse::RANGE, 0))?;
+    let lent' 'need(counts.len() >= COUNTS, refused(refuse::TOO_SHORT, 0))?;
+    need((1..=MAX_TOOL as u32).contains(&tool), refused(refuse::RANGE, 0))?;
+    let lent'
+mistake 'short block asked as far as it goes' 'let lent = counts.get(..COUNTS).ok_or(refused(refuse::TOO_SHORT, 0))?;' \
+    'let lent = counts; need(first + (tool as usize) <= lent.len(), refused(refuse::TOO_SHORT, 0))?;'
+mistake 'block without a number to spare' 'counts.get(..COUNTS).ok_or' 'counts.get(..COUNTS + 1).ok_or'
+mistake 'counts over 1,000 refused in the question' 'Ok(lent[first + tool as usize - 1])' \
+    'Some(lent[first + tool as usize - 1]).filter(|&count| count <= MAX_COUNT).ok_or(refused(refuse::TABLE, 0))'
+mistake 'count told in 16 bits' 'Ok(lent[first + tool as usize - 1])' 'Ok(lent[first + tool as usize - 1] & 0xFFFF)'
 
 # Writing.
 mistake 'comments written' 'Command::Comment => return,' "Command::Comment => out.push(b';'),"

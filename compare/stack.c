@@ -53,25 +53,38 @@ static uint8_t file[MOST_BYTES + 1], whole[MOST_BYTES + 1], text[MOST_BYTES], *l
 static size_t file_len, whole_len, text_len, line_len, n, line, hole_len;
 static int32_t table[MOST_NUMBERS], good[MOST_NUMBERS], hole[HOLE];
 static size_t table_len;
-static uint32_t revision;
+static uint32_t revision, tool, counts[XNC_COUNTS_WIDTH], own[XNC_COUNTS_WIDTH];
+static size_t counts_len;
 
 /* Each does nothing but call, so that what is found below its frame is the call's. */
 static void read_file(void)
 {
     top = __builtin_frame_address(0);
-    answer = xnc_read(file, file_len, revision, table, table_len);
+    answer = xnc_read(file, file_len, revision, table, table_len, counts, counts_len);
 }
 
 static void edit_line(void)
 {
     top = __builtin_frame_address(0);
-    answer = xnc_edit(table, table_len, n, line, line_text, line_len, revision);
+    answer = xnc_edit(table, table_len, n, line, line_text, line_len, revision, counts, counts_len);
 }
 
 static void ask_for_hole(void)
 {
     top = __builtin_frame_address(0);
     answer = xnc_hole(table, table_len, n, line, hole, hole_len);
+}
+
+static void ask_for_hits(void)
+{
+    top = __builtin_frame_address(0);
+    answer = xnc_hits(counts, counts_len, tool);
+}
+
+static void ask_for_routs(void)
+{
+    top = __builtin_frame_address(0);
+    answer = xnc_routs(counts, counts_len, tool);
 }
 
 static void write_table(void)
@@ -147,6 +160,7 @@ static void lend_file(void)
 {
     memcpy(file, whole, sizeof file);
     file_len = whole_len;
+    counts_len = XNC_COUNTS_WIDTH;
     revision = XNC_REVISION_2021;
 }
 
@@ -154,6 +168,8 @@ static void lend_table(void)
 {
     memcpy(table, good, sizeof table);
     table_len = MOST_NUMBERS;
+    memcpy(counts, own, sizeof counts);
+    counts_len = XNC_COUNTS_WIDTH;
     revision = XNC_REVISION_2021;
     hole_len = HOLE;
     text_len = sizeof text;
@@ -180,6 +196,10 @@ static void every_read(void)
     lend_file();
     table_len = 0;
     once();
+    lend_file();
+    table_len = MOST_NUMBERS;
+    counts_len = XNC_COUNTS_WIDTH - 1;
+    once();
 }
 
 static void each_line(void)
@@ -192,6 +212,7 @@ static void each_line(void)
 
 static void every_edit(void)
 {
+    static uint8_t comment[] = ";";
     static uint8_t bad[][32] = {"", "T1C0.5", "X1e", "G03X1Y1A0.1", "X1000Y0", "X1Y1.1234567", "\xFF", "M15\r", "\t", "G01X0Y-999.999999"};
 
     for (size_t at = 0; at < whole_len; at += line_len + 1) {
@@ -204,6 +225,30 @@ static void every_edit(void)
         line_len = strlen((const char *)line_text);
         each_line();
     }
+    /* counts that aren't the table's own, and a block that is too short */
+    line_text = comment;
+    line_len = 1;
+    for (line = 1; line <= n; line++) {
+        for (size_t i = 0; i < XNC_COUNTS_WIDTH; i++) {
+            lend_table();
+            counts[i] = i % 2 == 0 ? 0 : 1001;
+            once();
+        }
+        lend_table();
+        counts_len = XNC_COUNTS_WIDTH - 1;
+        once();
+    }
+}
+
+static void every_count(void)
+{
+    for (tool = 0; tool <= 100; tool++) {
+        lend_table();
+        once();
+    }
+    tool = 1;
+    counts_len = XNC_COUNTS_WIDTH - 1;
+    once();
 }
 
 static void every_hole(void)
@@ -244,7 +289,7 @@ static bool take(const char *name)
     if (in != NULL) {
         fclose(in);
     }
-    uint64_t read = xnc_read(whole, whole_len, XNC_REVISION_2021, good, MOST_NUMBERS);
+    uint64_t read = xnc_read(whole, whole_len, XNC_REVISION_2021, good, MOST_NUMBERS, own, XNC_COUNTS_WIDTH);
     n = xnc_value(read);
     if (xnc_number(read) != 0) {
         printf("%s: no file that is accepted\n", name);
@@ -258,8 +303,10 @@ static const struct {
     void (*every)(void);
     size_t bound;
 } functions[] = {
-    {"xnc_read", read_file, every_read, 65536},
-    {"xnc_edit", edit_line, every_edit, 1536},
+    {"xnc_read", read_file, every_read, 69632},
+    {"xnc_edit", edit_line, every_edit, 6144},
+    {"xnc_hits", ask_for_hits, every_count, 64},
+    {"xnc_routs", ask_for_routs, every_count, 64},
     {"xnc_hole", ask_for_hole, every_hole, 512},
     {"xnc_write", write_table, every_write, 1024},
 };

@@ -1,4 +1,5 @@
-/* The library from C: reads an XNC file from standard input, tries one edit, and says what moved, or where it is refused.
+/* The library from C: reads an XNC file from standard input, tries one edit, and says what moved and how often each tool is used then, or
+ * where it is refused.
  *
  *   door LINE TEXT <FILE
  *
@@ -9,7 +10,7 @@
 #include <stdlib.h>
 #include <string.h>
 
-enum { MOST_BYTES = 65536, MOST_LINES = 1000, MOST_NUMBERS = MOST_LINES * XNC_ROW_WIDTH, HOLE = 7 };
+enum { MOST_BYTES = 65536, MOST_LINES = 1000, MOST_NUMBERS = MOST_LINES * XNC_ROW_WIDTH, HOLE = 7, LAST_TOOL = 99 };
 
 static int refused(const char *what, uint64_t answer)
 {
@@ -32,13 +33,14 @@ int main(int argc, char **argv)
     static uint8_t text[MOST_BYTES];
     static int32_t old[MOST_NUMBERS];
     static int32_t edited[MOST_NUMBERS];
+    uint32_t counts[XNC_COUNTS_WIDTH];
 
     if (argc != 3) {
         fprintf(stderr, "usage: door LINE TEXT <FILE\n");
         return 2;
     }
     size_t bytes = fread(file, 1, sizeof file, stdin);
-    uint64_t answer = xnc_read(file, bytes, XNC_REVISION_2021, old, MOST_NUMBERS);
+    uint64_t answer = xnc_read(file, bytes, XNC_REVISION_2021, old, MOST_NUMBERS, counts, XNC_COUNTS_WIDTH);
     if (xnc_number(answer) != 0) {
         return refused("read", answer);
     }
@@ -47,7 +49,7 @@ int main(int argc, char **argv)
 
     size_t line = strtoul(argv[1], NULL, 10);
     memcpy(edited, old, sizeof old);
-    answer = xnc_edit(edited, MOST_NUMBERS, n, line, (const uint8_t *)argv[2], strlen(argv[2]), XNC_REVISION_2021);
+    answer = xnc_edit(edited, MOST_NUMBERS, n, line, (const uint8_t *)argv[2], strlen(argv[2]), XNC_REVISION_2021, counts, XNC_COUNTS_WIDTH);
     if (xnc_number(answer) != 0) {
         return refused("edit", answer);
     }
@@ -66,6 +68,15 @@ int main(int argc, char **argv)
             printf(" is now ");
             print_move(after);
             printf("\n");
+        }
+    }
+
+    /* The edit has brought the counts up to date. */
+    for (uint32_t tool = 1; tool <= LAST_TOOL; tool++) {
+        unsigned hits = xnc_value(xnc_hits(counts, XNC_COUNTS_WIDTH, tool));
+        unsigned routs = xnc_value(xnc_routs(counts, XNC_COUNTS_WIDTH, tool));
+        if (hits != 0 || routs != 0) {
+            printf("tool %u: hits %u, routs %u\n", (unsigned)tool, hits, routs);
         }
     }
 

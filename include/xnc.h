@@ -25,6 +25,12 @@ extern "C" {
 /* Numbers in a row of a table. */
 enum { XNC_ROW_WIDTH = 16 };
 
+/* Numbers of the counts: how many hits each tool from 1 to 99 makes, then how many routs. They go with a table: xnc_read hands them out, and
+ * each xnc_edit of that table takes them in and brings them up to date, so lend the same block again. In the block of a table's own counts,
+ * what xnc_hits and xnc_routs answer is the number of the table's holes. A block under 198 numbers is refused 15 at line 0, after every other
+ * refusal that doesn't look into it. Numbers behind the 198 are not used. */
+enum { XNC_COUNTS_WIDTH = 198 };
+
 /* The revision of XNC by whose rule lines are read. 2019 also takes a declaration with one digit, as T1C0.6; all else is the same by both.
  * Any other number means 2021. A table has no revision: it may be edited by either. */
 enum { XNC_REVISION_2019 = 2019, XNC_REVISION_2021 = 2021 };
@@ -38,12 +44,20 @@ static inline uint32_t xnc_column(uint64_t answer) { return (uint32_t)(answer >>
 /* An answer's count, or its line on refusal. */
 static inline uint32_t xnc_value(uint64_t answer) { return (uint32_t)answer; }
 
-/* Reads a file: the count is its number of lines n, and the first 16 n numbers of the table are its rows. */
-uint64_t xnc_read(const uint8_t *file, size_t file_len, uint32_t revision, int32_t *table, size_t table_len);
+/* Reads a file: the count is its number of lines n, the first 16 n numbers of the table are its rows, and the counts are those of its holes. */
+uint64_t xnc_read(const uint8_t *file, size_t file_len, uint32_t revision, int32_t *table, size_t table_len, uint32_t *counts,
+                  size_t counts_len);
 
 /* Line `line` (from 1) of a table of n rows gets new bytes, without a line end. The count is the meeting line: the first, from the edited
- * one on, after which old and new states agree, or n. Only rows from the edited line to it change. */
-uint64_t xnc_edit(int32_t *table, size_t table_len, size_t n, size_t line, const uint8_t *text, size_t text_len, uint32_t revision);
+ * one on, after which old and new states agree, or n. Only rows from the edited line to it change. Their old holes are taken from the counts,
+ * and their new ones added. After all other refusals it is refused 18 at line 0 if a count, of any tool, is over 1,000 or under what these
+ * rows take from it: then the counts are not this table's own. */
+uint64_t xnc_edit(int32_t *table, size_t table_len, size_t n, size_t line, const uint8_t *text, size_t text_len, uint32_t revision,
+                  uint32_t *counts, size_t counts_len);
+
+/* How many hits, and how many routs, a tool makes. A tool that is not 1 to 99 is refused 7 at line 0. The counts are taken as they are. */
+uint64_t xnc_hits(const uint32_t *counts, size_t counts_len, uint32_t tool);
+uint64_t xnc_routs(const uint32_t *counts, size_t counts_len, uint32_t tool);
 
 /* The hole of a line. The count is 1, with seven numbers put into `hole` (kind, tool, start x, start y, end x, end y, radius), or 0 where the
  * line makes none, with `hole` unchanged. A `hole` block under seven numbers is refused 15 at line 0, after all other refusals. */

@@ -4,26 +4,28 @@
 //! compare [COUNT [SEED]]
 //! compare print COUNT SEED PROGRAM [ARGUMENT ...]
 //! compare moves COUNT SEED PROGRAM [ARGUMENT ...]
+//! compare counts COUNT SEED PROGRAM [ARGUMENT ...]
 //! ```
 //!
 //! The first form makes at least COUNT comparisons of single calls, from a
 //! fixed seed unless one is given. Each compares the answer, its column too, and
 //! everything lent, with numbers or bytes before and behind it. In both
 //! implementations, an answer must have a column just where it may, and what an
-//! edit and a writing promise is held against fresh readings. The other two
+//! edit and a writing promise is held against fresh readings. The other three
 //! forms compare what a program prints for COUNT files, or edits. Each file and
 //! each edit is by one of the two revisions.
 //!
 //! It fails when a pair differs, when a promise is broken, when a refusal that a
-//! function can give never came up, when 4 or 7 came up at too few columns, or when
-//! half circles with some number of decimals were accepted or refused too seldom.
+//! function can give never came up, when 4 or 7 came up at too few columns, when
+//! half circles with some number of decimals were accepted or refused too seldom, or
+//! when too few edits were refused for a count too large, or for one too small.
 
 mod inputs;
 mod library;
 mod random;
 
 use inputs::{Arc, File, Model, MAX, MAX_FILE, MAX_LINES};
-use library::{Answer, Library, Plain, Revision, Revision::*, Xnc, ROW};
+use library::{Answer, Library, Plain, Revision, Revision::*, Xnc, COUNTS, ROW};
 use random::Random;
 use std::collections::BTreeSet;
 use std::fmt::Write as _;
@@ -37,17 +39,30 @@ const SHOWN: u64 = 5;
 
 const BOTH: [Revision; 2] = [Rev2019, Rev2021];
 
-const NAMES: [&str; 6] = ["read 2019", "read 2021", "edit 2019", "edit 2021", "hole", "write"];
+const FUNCTIONS: usize = 8;
+const NAMES: [&str; FUNCTIONS] =
+    ["read 2019", "read 2021", "edit 2019", "edit 2021", "hole", "write", "hits", "routs"];
 const READ: [usize; 2] = [0, 1];
 const EDIT: [usize; 2] = [2, 3];
 const HOLE: usize = 4;
 const WRITE: usize = 5;
+const HITS: usize = 6;
+const ROUTS: usize = 7;
 
 /// The numbers that each function can give, 0 for success.
 const READ_GIVES: &[usize] = &[0, 1, 2, 3, 4, 5, 6, 7, 8, 9, 10, 11, 12, 13, 14, 15];
-const EDIT_GIVES: &[usize] = &[0, 4, 5, 6, 7, 8, 9, 10, 11, 12, 13, 14, 16, 17, 18];
-const CAN_GIVE: [&[usize]; 6] =
-    [READ_GIVES, READ_GIVES, EDIT_GIVES, EDIT_GIVES, &[0, 15, 16, 18], &[0, 15, 18]];
+const EDIT_GIVES: &[usize] = &[0, 4, 5, 6, 7, 8, 9, 10, 11, 12, 13, 14, 15, 16, 17, 18];
+const QUESTION_GIVES: &[usize] = &[0, 7, 15];
+const CAN_GIVE: [&[usize]; FUNCTIONS] = [
+    READ_GIVES,
+    READ_GIVES,
+    EDIT_GIVES,
+    EDIT_GIVES,
+    &[0, 15, 16, 18],
+    &[0, 15, 18],
+    QUESTION_GIVES,
+    QUESTION_GIVES,
+];
 
 /// The refusals that name a column, in the functions before `HOLE`, and the last
 /// column that a line has.
@@ -61,6 +76,15 @@ const LEAST_COLUMNS: usize = 250;
 /// How many half circles must be accepted, and how many refused, for each number
 /// of decimals in the radius.
 const LEAST_HALF_CIRCLES: u64 = 50;
+
+/// The largest count that an edit takes, and how many edits must be refused for a
+/// count over it, and how many for one under what the span takes.
+const MAX_COUNT: u32 = 1_000;
+const LEAST_BAD_COUNTS: u64 = 200;
+
+/// What stands before and behind a block of numbers, and of counts.
+const EDGE_NUMBER: i32 = -7;
+const EDGE_COUNT: u32 = 70_707;
 
 /// One of the two, as the revision has it.
 fn by<T>(revision: Revision, [old, new]: [T; 2]) -> T {
@@ -93,8 +117,23 @@ impl<T: Copy + PartialEq> Lent<T> {
     fn content(&self) -> &[T] {
         &self.all[Self::EDGE..Self::EDGE + self.length]
     }
+}
+
+/// All that is lent to a call for writing.
+trait Blocks: Clone + PartialEq {
+    /// What of it may change; nothing, unless said.
+    type Span: Default;
 
     /// Whether all outside `span` is as in `before`.
+    fn same_outside(&self, before: &Self, span: &Self::Span) -> bool;
+
+    /// Where it begins to differ from another.
+    fn difference(&self, other: &Self) -> String;
+}
+
+impl<T: Copy + PartialEq> Blocks for Lent<T> {
+    type Span = Range<usize>;
+
     fn same_outside(&self, before: &Lent<T>, span: &Range<usize>) -> bool {
         let start = Self::EDGE + span.start;
         let end = Self::EDGE + span.end;
@@ -102,16 +141,55 @@ impl<T: Copy + PartialEq> Lent<T> {
             && self.all[..start] == before.all[..start]
             && self.all[end..] == before.all[end..]
     }
+
+    fn difference(&self, other: &Lent<T>) -> String {
+        let at = (0..self.all.len()).find(|&at| self.all[at] != other.all[at]);
+        format!("{}", at.unwrap_or(0) as i64 - Self::EDGE as i64)
+    }
+}
+
+/// A table and the counts beside it.
+#[derive(Clone, PartialEq)]
+struct Counted {
+    table: Lent<i32>,
+    counts: Lent<u32>,
+}
+
+impl Counted {
+    fn new(table: &[i32], counts: &[u32]) -> Counted {
+        Counted { table: Lent::new(table, EDGE_NUMBER), counts: Lent::new(counts, EDGE_COUNT) }
+    }
+}
+
+impl Blocks for Counted {
+    type Span = (Range<usize>, Range<usize>);
+
+    fn same_outside(&self, before: &Counted, (rows, counts): &Self::Span) -> bool {
+        self.table.same_outside(&before.table, rows)
+            && self.counts.same_outside(&before.counts, counts)
+    }
+
+    fn difference(&self, other: &Counted) -> String {
+        if self.table != other.table {
+            format!("number {}", self.table.difference(&other.table))
+        } else {
+            format!("count {}", self.counts.difference(&other.counts))
+        }
+    }
 }
 
 struct Comparison {
     random: Random,
-    came_up: [[u64; 19]; 6],
+    came_up: [[u64; 19]; FUNCTIONS],
     /// The columns that came up in each function with each of `NAME_COLUMN`.
     columns: [[BTreeSet<u32>; 2]; HOLE],
     /// How many half circles were accepted and refused, by their radius's decimals.
     accepted: [u64; 7],
     refused: [u64; 7],
+    /// How many edits were refused for a count over 1,000, and how many for none
+    /// such but one under what the span takes.
+    over: u64,
+    under: u64,
     holes: u64,
     compared: u64,
     promises: u64,
@@ -122,10 +200,12 @@ impl Comparison {
     fn new(seed: u64) -> Comparison {
         Comparison {
             random: Random::new(seed),
-            came_up: [[0; 19]; 6],
+            came_up: [[0; 19]; FUNCTIONS],
             columns: Default::default(),
             accepted: [0; 7],
             refused: [0; 7],
+            over: 0,
+            under: 0,
             holes: 0,
             compared: 0,
             promises: 0,
@@ -135,20 +215,55 @@ impl Comparison {
 
     // -------------------------------------------------------- single calls
 
+    /// Reads with room for the counts, and now and then also without.
     fn read(&mut self, file: &[u8], revision: Revision, table: &[i32]) -> (Answer, Vec<i32>) {
-        let before = Lent::new(table, -7);
-        let pair = call(
-            &before,
-            |lent| Plain::read(file, revision, lent),
-            |lent| Xnc::read(file, revision, lent),
-        );
-        let span = |(_, count, _): Answer| 0..count as usize * ROW;
-        self.judge(by(revision, READ), &before, &pair, span, || {
-            format!("file \"{}\"\n{} numbers lent", file.escape_ascii(), table.len())
-        });
-        (pair.expected, pair.ours.content().to_vec())
+        let spare = *self.random.pick(&[0, 0, 1, 20]);
+        let block = self.any_counts(COUNTS + spare);
+        let pair = self.read_with(file, revision, table, &block);
+        for (side, answer, lent) in pair.sides() {
+            if answer.0 == 0 {
+                self.promise(side, counts_are_those_of_the_holes(answer, lent));
+            }
+        }
+        let answer = pair.expected;
+        if self.random.one_in(6) {
+            let length = *self.random.pick(&[0, 1, COUNTS / 2, COUNTS - 1]);
+            let short = self.read_with(file, revision, table, &block[..length]).expected;
+            let expected = if answer.0 == 0 { (15, 0, 0) } else { answer };
+            if short != expected {
+                self.differs(&format!("read with {length} counts lent answers {short:?}"));
+            }
+        }
+        (answer, pair.ours.table.content().to_vec())
     }
 
+    fn read_with(
+        &mut self,
+        file: &[u8],
+        revision: Revision,
+        table: &[i32],
+        counts: &[u32],
+    ) -> Pair<Counted> {
+        let before = Counted::new(table, counts);
+        let pair = call(
+            &before,
+            |lent| Plain::read(file, revision, lent.table.slice(), lent.counts.slice()),
+            |lent| Xnc::read(file, revision, lent.table.slice(), lent.counts.slice()),
+        );
+        let span = |(_, count, _): Answer| (0..count as usize * ROW, 0..COUNTS);
+        self.judge(by(revision, READ), &before, &pair, span, || {
+            format!(
+                "file \"{}\"\n{} numbers and {} counts lent",
+                file.escape_ascii(),
+                table.len(),
+                counts.len()
+            )
+        });
+        pair
+    }
+
+    /// Edits with the table's own counts, which must be its own again afterwards;
+    /// now and then also with others.
     fn edit(
         &mut self,
         table: &[i32],
@@ -157,26 +272,70 @@ impl Comparison {
         text: &[u8],
         revision: Revision,
     ) -> (Answer, Vec<i32>) {
-        let before = Lent::new(table, -7);
+        let edit = Edit { table, n, line, text, revision };
+        let moved = Moved::by(&edit);
+        let mut own = own_counts(table, n);
+        if self.random.one_in(3) {
+            let spare = 1 + self.random.below(20);
+            own.extend(self.any_counts(spare));
+        }
+        let pair = self.edit_with(&edit, &moved, &own);
+        for (side, answer, lent) in pair.sides() {
+            if answer.0 == 0 {
+                self.promise(side, counts_are_own(&edit, lent));
+            }
+        }
+        if self.random.one_in(3) {
+            let counts = self.other_counts(&own[..COUNTS], &moved.gone);
+            self.edit_with(&edit, &moved, &counts);
+        }
+        (pair.expected, pair.ours.table.content().to_vec())
+    }
+
+    /// Edits with any counts. What becomes of them is worked out here once more.
+    fn edit_with(&mut self, edit: &Edit, moved: &Moved, counts: &[u32]) -> Pair<Counted> {
+        let &Edit { table, n, line, text, revision } = edit;
+        let before = Counted::new(table, counts);
         let pair = call(
             &before,
-            |lent| Plain::edit(lent, n, line, text, revision),
-            |lent| Xnc::edit(lent, n, line, text, revision),
+            |lent| {
+                let (table, counts) = (lent.table.slice(), lent.counts.slice());
+                Plain::edit(table, n, line, text, revision, counts)
+            },
+            |lent| {
+                let (table, counts) = (lent.table.slice(), lent.counts.slice());
+                Xnc::edit(table, n, line, text, revision, counts)
+            },
         );
-        let span = |(_, meeting, _): Answer| (line - 1) * ROW..meeting as usize * ROW;
-        self.judge(by(revision, EDIT), &before, &pair, span, || {
-            format!("n {n}, line {line}, text \"{}\"\n{}", text.escape_ascii(), rows(table))
-        });
-        (pair.expected, pair.ours.content().to_vec())
+        let span = |(_, meeting, _): Answer| ((line - 1) * ROW..meeting as usize * ROW, 0..COUNTS);
+        let input = || format!("{}\n{}{}", edit.shown(), counts_shown(counts), rows(table));
+        self.judge(by(revision, EDIT), &before, &pair, span, input);
+        let expected = moved.from(counts);
+        if (pair.expected, pair.ours.counts.content()) != (expected.0, &expected.1[..]) {
+            self.differs(&format!(
+                "edit: plain answers {:?} for {:?}\n{}",
+                pair.expected,
+                expected.0,
+                input()
+            ));
+        }
+        if moved.answer.0 == 0 && pair.expected == (18, 0, 0) {
+            if counts.iter().take(COUNTS).any(|&count| count > MAX_COUNT) {
+                self.over += 1;
+            } else {
+                self.under += 1;
+            }
+        }
+        pair
     }
 
     fn hole(&mut self, table: &[i32], n: usize, line: usize, length: usize) -> Answer {
         let block: Vec<i32> = (0..length).map(|_| self.random.next() as i32).collect();
-        let before = Lent::new(&block, -7);
+        let before = Lent::new(&block, EDGE_NUMBER);
         let pair = call(
             &before,
-            |lent| Plain::hole(table, n, line, lent),
-            |lent| Xnc::hole(table, n, line, lent),
+            |lent| Plain::hole(table, n, line, lent.slice()),
+            |lent| Xnc::hole(table, n, line, lent.slice()),
         );
         let span = |(_, count, _): Answer| 0..count as usize * 7;
         self.judge(HOLE, &before, &pair, span, || {
@@ -190,8 +349,11 @@ impl Comparison {
 
     fn write(&mut self, table: &[i32], n: usize, length: usize) -> (Answer, Vec<u8>) {
         let before = Lent::new(&vec![b'~'; length], b'#');
-        let pair =
-            call(&before, |lent| Plain::write(table, n, lent), |lent| Xnc::write(table, n, lent));
+        let pair = call(
+            &before,
+            |lent| Plain::write(table, n, lent.slice()),
+            |lent| Xnc::write(table, n, lent.slice()),
+        );
         let span = |(_, count, _): Answer| 0..count as usize;
         self.judge(WRITE, &before, &pair, span, || {
             format!("n {n}, {length} bytes lent\n{}", rows(table))
@@ -199,15 +361,43 @@ impl Comparison {
         (pair.expected, pair.ours.content().to_vec())
     }
 
+    /// Asks how many hits, or routs, a tool makes.
+    fn question(&mut self, function: usize, counts: &[u32], tool: u32) {
+        let before = Lent::new(counts, EDGE_COUNT);
+        let pair = match function {
+            HITS => call(
+                &before,
+                |lent| Plain::hits(lent.content(), tool),
+                |lent| Xnc::hits(lent.content(), tool),
+            ),
+            _ => call(
+                &before,
+                |lent| Plain::routs(lent.content(), tool),
+                |lent| Xnc::routs(lent.content(), tool),
+            ),
+        };
+        let input = || format!("tool {tool}\n{}", counts_shown(counts));
+        self.judge(function, &before, &pair, |_| 0..0, input);
+        let first = if function == HITS { 0 } else { COUNTS / 2 };
+        let expected = match (tool, counts.len()) {
+            (1..=99, COUNTS..) => (0, counts[first + tool as usize - 1], 0),
+            (1..=99, _) => (15, 0, 0),
+            _ => (7, 0, 0),
+        };
+        if pair.expected != expected {
+            self.differs(&format!("{} answers {:?}: {}", NAMES[function], pair.expected, input()));
+        }
+    }
+
     /// Holds the pair's two sides against each other, and each against the
     /// promises that it has a column just where it may, and that a refusal changes
     /// nothing and success only its span.
-    fn judge<T: Copy + PartialEq>(
+    fn judge<B: Blocks>(
         &mut self,
         function: usize,
-        before: &Lent<T>,
-        pair: &Pair<T>,
-        span: impl Fn(Answer) -> Range<usize>,
+        before: &B,
+        pair: &Pair<B>,
+        span: impl Fn(Answer) -> B::Span,
         input: impl Fn() -> String,
     ) {
         let name = NAMES[function];
@@ -226,24 +416,21 @@ impl Comparison {
                 input()
             ));
         } else if pair.ours != pair.theirs {
-            let at = (0..pair.ours.all.len()).find(|&at| pair.ours.all[at] != pair.theirs.all[at]);
-            let at = at.unwrap_or(0) as i64 - Lent::<T>::EDGE as i64;
             self.differs(&format!(
-                "{name}: both answer {:?}, what was lent differs from {at} on\n{}",
+                "{name}: both answer {:?}, what was lent differs from {} on\n{}",
                 pair.expected,
+                pair.ours.difference(&pair.theirs),
                 input()
             ));
         }
-        let sides =
-            [(Plain::NAME, pair.expected, &pair.ours), (Xnc::NAME, pair.found, &pair.theirs)];
-        for (side, answer, lent) in sides {
+        for (side, answer, lent) in pair.sides() {
             if !column_fits(function, answer) {
                 self.differs(&format!(
                     "{name}: {side} answers {answer:?}, with a column it can't have\n{}",
                     input()
                 ));
             }
-            let span = if answer.0 == 0 { span(answer) } else { 0..0 };
+            let span = if answer.0 == 0 { span(answer) } else { B::Span::default() };
             if !lent.same_outside(before, &span) {
                 self.differs(&format!("{name}: {side} changes more than it may\n{}", input()));
             }
@@ -284,6 +471,69 @@ impl Comparison {
     /// Numbers to lend: noise, so that nothing is right by chance.
     fn noise(&mut self, length: usize) -> Vec<i32> {
         (0..length).map(|_| self.random.next() as i32).collect()
+    }
+
+    /// The same for counts.
+    fn any_counts(&mut self, length: usize) -> Vec<u32> {
+        (0..length).map(|_| self.random.next() as u32).collect()
+    }
+
+    /// Counts that mostly aren't the table's own, for an edit that takes `gone` from
+    /// them.
+    fn other_counts(&mut self, own: &[u32], gone: &[u32]) -> Vec<u32> {
+        let taken: Vec<usize> = (0..COUNTS).filter(|&at| gone[at] > 0).collect();
+        let random = &mut self.random;
+        // One that the span takes from, if it does, or any; often one at an end.
+        let any = match random.below(3) {
+            0 => *random.pick(&[0, COUNTS / 2 - 1, COUNTS / 2, COUNTS - 1]),
+            _ => random.below(COUNTS),
+        };
+        let at = if taken.is_empty() { any } else { *random.pick(&taken) };
+        let mut counts = own.to_vec();
+        match random.below(18) {
+            0 => counts = gone.to_vec(),
+            1 | 2 => {
+                counts = gone.to_vec();
+                counts[at] = counts[at].saturating_sub(1);
+            }
+            3 | 4 => counts[at] = gone[at].saturating_sub(1),
+            5 => counts[at] = gone[at],
+            6 => counts[at] = *random.pick(&[MAX_COUNT - 1, MAX_COUNT]),
+            7 => counts[any] = *random.pick(&[MAX_COUNT - 1, MAX_COUNT]),
+            8 => counts[at] = *random.pick(&[MAX_COUNT + 1, u32::MAX]),
+            9 => counts[any] = *random.pick(&[MAX_COUNT + 1, u32::MAX]),
+            10 => counts[any] = *random.pick(&[1 << 16, 1 << 31, u32::MAX - 1]),
+            11 => {
+                counts[any] = *random.pick(&[0, 1, MAX_COUNT + 1]);
+                counts.truncate(*random.pick(&[0, 1, COUNTS / 2, COUNTS - 1]));
+            }
+            12 => counts.fill_with(|| random.below(MAX_COUNT as usize + 1) as u32),
+            13 => counts.fill_with(|| random.below(4) as u32),
+            14 => counts[any] = counts[any].wrapping_add(1),
+            15 => counts[any] = counts[any].wrapping_sub(1),
+            16 => counts.fill(*random.pick(&[0, MAX_COUNT, MAX_COUNT + 1])),
+            _ => counts.fill_with(|| random.next() as u32),
+        }
+        if counts.len() == COUNTS && random.one_in(3) {
+            let spare = 1 + self.random.below(20);
+            counts.extend(self.any_counts(spare));
+        }
+        counts
+    }
+
+    /// Asks counts for tools that there are and for such that there aren't, also
+    /// where the block is short.
+    fn questions(&mut self, counts: &[u32]) {
+        let tools = [0, 1, 99, 100, u32::MAX, self.random.next() as u32];
+        let tool = 1 + self.random.below(99) as u32;
+        let mut block = counts.to_vec();
+        block.extend(self.any_counts(1));
+        for tool in tools.into_iter().chain([tool; 3]) {
+            let length = *self.random.pick(&[0, COUNTS - 1, COUNTS, COUNTS, COUNTS + 1]);
+            for function in [HITS, ROUTS] {
+                self.question(function, &block[..length], tool);
+            }
+        }
     }
 
     /// Reads a file that must be accepted by its revision, and by the other one
@@ -396,6 +646,7 @@ impl Comparison {
         }
         self.writes(&table, n);
         self.holes(&table, n, 1..n + 1);
+        self.questions(&own_counts(&table, n));
     }
 
     /// Counts of rows and line numbers that don't fit the table.
@@ -493,6 +744,7 @@ impl Comparison {
         }
         let n = file.lines.len();
         let table = self.read_valid(&file);
+        self.questions(&own_counts(&table, n));
         self.read_into_short_tables(&file);
         self.read_damaged(&file, 100);
         self.writes(&table, n);
@@ -610,6 +862,8 @@ impl Comparison {
             self.all_tools(revision);
             self.all_columns(&File { revision, ..file.clone() }, &table);
         }
+        self.all_counts(&table);
+        self.all_questions();
         self.all_edges(&table);
         self.all_decimals(&table);
         self.all_radii(&file, &table);
@@ -640,6 +894,54 @@ impl Comparison {
                 self.differs(&format!("edit {line} {text} of the bench file answered {answer:?}"));
             }
             self.demand_3(file, line, text.as_bytes());
+        }
+    }
+
+    /// Every count at the edges, for edits that move no hole, that take one away, that
+    /// move two from tool to tool, that bring back what they take, and that are
+    /// refused. Then some of them with other tools in the place of 1 and 7, also none.
+    fn all_counts(&mut self, table: &[i32]) {
+        const EDITS: [(usize, &[u8]); 6] =
+            [(3, b"T01C0.6"), (8, b";"), (9, b";"), (9, b"T1"), (12, b"G01X4Y1"), (15, b";")];
+        for (a, b) in [(1, 7), (7, 1), (0, 7), (1, 0), (0, 0), (99, 98), (98, 99), (99, 99)] {
+            let mut table = table.to_vec();
+            for row in table.chunks_mut(ROW).filter(|row| row[8] != 0) {
+                row[8] = if row[8] == 1 { a } else { b };
+            }
+            let own = own_counts(&table, 15);
+            for (line, text) in EDITS {
+                let edit = Edit { table: &table, n: 15, line, text, revision: self.revision() };
+                let moved = Moved::by(&edit);
+                for at in 0..COUNTS {
+                    let gone = moved.gone[at];
+                    if (a, b) != (1, 7) && own[at] == 0 && !self.random.one_in(10) {
+                        continue;
+                    }
+                    for count in [gone, gone.wrapping_sub(1), MAX_COUNT, MAX_COUNT + 1] {
+                        let mut counts = own.clone();
+                        counts[at] = count;
+                        self.edit_with(&edit, &moved, &counts);
+                    }
+                }
+                for length in [0, 1, 99, 197, 198, 199, 300] {
+                    for count in [0, MAX_COUNT, MAX_COUNT + 1] {
+                        self.edit_with(&edit, &moved, &vec![count; length]);
+                    }
+                }
+            }
+        }
+    }
+
+    /// Every tool, and numbers that are none, asked of blocks of every kind.
+    fn all_questions(&mut self) {
+        let odd = [198, 199, 256, 257, 355, 65_536, 65_537, 1 << 31, (1 << 31) + 1, u32::MAX];
+        for tool in (0..=101).chain(odd) {
+            for length in [0, 1, 98, 99, 100, COUNTS - 1, COUNTS, COUNTS + 1, 300] {
+                let counts = self.any_counts(length);
+                for function in [HITS, ROUTS] {
+                    self.question(function, &counts, tool);
+                }
+            }
         }
     }
 
@@ -869,8 +1171,9 @@ impl Comparison {
 
     // -------------------------------------------------------------- report
 
-    /// Prints how often each number came up, at how many columns, and how many half
-    /// circles were accepted and refused; whether each one did, and enough of them.
+    /// Prints how often each number came up, at how many columns, how many half circles
+    /// were accepted and refused, and how many edits were refused for their counts;
+    /// whether each one did, and enough of them.
     fn report(&self) -> bool {
         let mut complete = true;
         for (function, numbers) in CAN_GIVE.iter().enumerate() {
@@ -897,6 +1200,7 @@ impl Comparison {
             println!("{line}");
         }
         complete &= self.report_half_circles();
+        complete &= self.report_bad_counts();
         println!("holes found {}, promises checked {}", self.holes, self.promises);
         complete
     }
@@ -914,6 +1218,20 @@ impl Comparison {
             }
             println!("{line}");
         }
+        complete
+    }
+
+    fn report_bad_counts(&self) -> bool {
+        let mut complete = true;
+        let mut line = String::from("edits refused for a count");
+        for (name, times) in [("over 1,000", self.over), ("under what is taken", self.under)] {
+            let _ = write!(line, "  {name}: {times}");
+            if times < LEAST_BAD_COUNTS {
+                complete = false;
+                line.push_str(" (too few)");
+            }
+        }
+        println!("{line}");
         complete
     }
 }
@@ -938,22 +1256,29 @@ fn column_fits(function: usize, answer: Answer) -> bool {
 // ------------------------------------------------------------------- pairs
 
 /// Both answers to one call, and what was lent afterwards.
-struct Pair<T> {
+struct Pair<B> {
     expected: Answer,
     found: Answer,
-    ours: Lent<T>,
-    theirs: Lent<T>,
+    ours: B,
+    theirs: B,
 }
 
-fn call<T: Copy + PartialEq>(
-    before: &Lent<T>,
-    plain: impl Fn(&mut [T]) -> Answer,
-    xnc: impl Fn(&mut [T]) -> Answer,
-) -> Pair<T> {
+impl<B> Pair<B> {
+    /// Each side's name, answer and what it left.
+    fn sides(&self) -> [(&'static str, Answer, &B); 2] {
+        [(Plain::NAME, self.expected, &self.ours), (Xnc::NAME, self.found, &self.theirs)]
+    }
+}
+
+fn call<B: Blocks>(
+    before: &B,
+    plain: impl Fn(&mut B) -> Answer,
+    xnc: impl Fn(&mut B) -> Answer,
+) -> Pair<B> {
     let mut ours = before.clone();
-    let expected = plain(ours.slice());
+    let expected = plain(&mut ours);
     let mut theirs = before.clone();
-    let found = xnc(theirs.slice());
+    let found = xnc(&mut theirs);
     Pair { expected, found, ours, theirs }
 }
 
@@ -992,6 +1317,132 @@ fn rows(table: &[i32]) -> String {
     text
 }
 
+// ------------------------------------------------------------------ counts
+
+/// The hole of a row by itself: whether it is a hit, and its tool. None where the
+/// row makes none, or fails its test.
+fn hole_of(row: &[i32]) -> Option<(bool, usize)> {
+    let mut hole = [0; 7];
+    let made = plain::hole(row, 1, 1, &mut hole) == (0, 1, 0);
+    made.then_some((hole[0] == 9, hole[1] as usize))
+}
+
+/// How many holes of each tool these rows make. Those of tool 0 aren't counted.
+fn count_holes(rows: &[i32]) -> Vec<u32> {
+    let mut counts = vec![0; COUNTS];
+    for (is_hit, tool) in rows.chunks_exact(ROW).filter_map(hole_of) {
+        if tool != 0 {
+            counts[tool - 1 + if is_hit { 0 } else { COUNTS / 2 }] += 1;
+        }
+    }
+    counts
+}
+
+/// A table's own counts: those of its first `n` rows, as far as they are there and
+/// pass their test.
+fn own_counts(table: &[i32], n: usize) -> Vec<u32> {
+    let n = n.min(MAX_LINES).min(table.len() / ROW);
+    count_holes(&table[..n * ROW])
+}
+
+/// An edit but for its counts.
+struct Edit<'a> {
+    table: &'a [i32],
+    n: usize,
+    line: usize,
+    text: &'a [u8],
+    revision: Revision,
+}
+
+impl Edit<'_> {
+    fn shown(&self) -> String {
+        format!("n {}, line {}, text \"{}\"", self.n, self.line, self.text.escape_ascii())
+    }
+}
+
+/// What an edit does to counts: its answer where they refuse nothing, what goes
+/// from them, and what comes.
+struct Moved {
+    answer: Answer,
+    gone: Vec<u32>,
+    made: Vec<u32>,
+}
+
+impl Moved {
+    /// By the span's rows before and after. Counts of 1,000 each are neither over that
+    /// nor under what any span takes.
+    fn by(edit: &Edit) -> Moved {
+        let &Edit { table, n, line, text, revision } = edit;
+        let mut edited = table.to_vec();
+        let full = &mut [MAX_COUNT; COUNTS];
+        let answer = Plain::edit(&mut edited, n, line, text, revision, full);
+        let span = match answer {
+            (0, meeting, _) => (line - 1) * ROW..meeting as usize * ROW,
+            _ => 0..0,
+        };
+        let (gone, made) = (count_holes(&table[span.clone()]), count_holes(&edited[span]));
+        Moved { answer, gone, made }
+    }
+
+    /// What the edit must answer from these counts, and what they must be afterwards.
+    fn from(&self, counts: &[u32]) -> (Answer, Vec<u32>) {
+        let mut after = counts.to_vec();
+        if self.answer.0 != 0 {
+            return (self.answer, after);
+        }
+        if counts.len() < COUNTS {
+            return ((15, 0, 0), after);
+        }
+        if (0..COUNTS).any(|at| counts[at] > MAX_COUNT || counts[at] < self.gone[at]) {
+            return ((18, 0, 0), after);
+        }
+        for (at, count) in after[..COUNTS].iter_mut().enumerate() {
+            *count = *count - self.gone[at] + self.made[at];
+        }
+        (self.answer, after)
+    }
+}
+
+/// All counts but those that are 0.
+fn counts_shown(counts: &[u32]) -> String {
+    let mut text = format!("{} counts lent:", counts.len());
+    for (at, count) in counts.iter().enumerate().filter(|(_, &count)| count != 0) {
+        let _ = match at {
+            0..=98 => write!(text, " {count} hits of {},", at + 1),
+            99..=197 => write!(text, " {count} routs of {},", at - 98),
+            _ => write!(text, " {count} behind,"),
+        };
+    }
+    text.push_str(" else 0\n");
+    text
+}
+
+/// After an accepted reading the counts are those of the table's holes, and sum to
+/// how many there are.
+fn counts_are_those_of_the_holes((_, n, _): Answer, lent: &Counted) -> Result<(), String> {
+    let (table, n) = (lent.table.content(), n as usize);
+    if table.len() < n * ROW || lent.counts.length < COUNTS {
+        return Err(String::from("a reading is accepted without room for it"));
+    }
+    let counts = &lent.counts.content()[..COUNTS];
+    let holes = (1..=n).filter(|&line| plain::hole(table, n, line, &mut [0; 7]) == (0, 1, 0));
+    let holes = holes.count() as u64;
+    let sum: u64 = counts.iter().map(|&count| u64::from(count)).sum();
+    if counts == own_counts(table, n) && sum == holes {
+        return Ok(());
+    }
+    Err(format!("{holes} holes are counted as {}{}", counts_shown(counts), rows(table)))
+}
+
+/// After an accepted edit from a table's own counts they are its own again.
+fn counts_are_own(edit: &Edit, lent: &Counted) -> Result<(), String> {
+    let counts = &lent.counts.content()[..COUNTS];
+    if counts == own_counts(lent.table.content(), edit.n) {
+        return Ok(());
+    }
+    Err(format!("own counts become {}{}\n{}", counts_shown(counts), edit.shown(), rows(edit.table)))
+}
+
 // ---------------------------------------------------------------- promises
 
 /// Counts of rows about a table's own, about the limit, and beyond what all its numbers can be.
@@ -1026,16 +1477,17 @@ fn state(table: &[i32], line: usize) -> &[i32] {
 fn older_accepts<L: Library>(file: &[u8]) -> Result<(), String> {
     let lent = vec![-5; MAX_LINES * ROW];
     let (mut new, mut old) = (lent.clone(), lent);
-    let by_new = L::read(file, Rev2021, &mut new);
-    let by_old = L::read(file, Rev2019, &mut old);
-    if by_new.0 != 0 || (by_old == by_new && old == new) {
+    let (mut new_counts, mut old_counts) = ([5; COUNTS], [6; COUNTS]);
+    let by_new = L::read(file, Rev2021, &mut new, &mut new_counts);
+    let by_old = L::read(file, Rev2019, &mut old, &mut old_counts);
+    if by_new.0 != 0 || (by_old == by_new && old == new && old_counts == new_counts) {
         return Ok(());
     }
     Err(format!("2021 answers {by_new:?}, 2019 {by_old:?}, file \"{}\"", file.escape_ascii()))
 }
 
 /// Demand 3, of one side and by the file's revision: an edit answers and leaves what reading the
-/// edited file afresh would.
+/// edited file afresh would, in the table and in its own counts.
 fn edit_is_reading<L: Library>(file: &File, line: usize, text: &[u8]) -> Result<(), String> {
     let mut changed = file.clone();
     changed.lines[line - 1] = text.to_vec();
@@ -1045,18 +1497,27 @@ fn edit_is_reading<L: Library>(file: &File, line: usize, text: &[u8]) -> Result<
     }
     let n = file.lines.len();
     let mut old = vec![-5; n * ROW + 3];
-    let first = L::read(&file.bytes(), file.revision, &mut old);
-    let mut edited = old.clone();
-    let answer = L::edit(&mut edited, n, line, text, file.revision);
-    let mut fresh = old.clone();
-    let reading = L::read(&changed, file.revision, &mut fresh);
+    let mut counts = vec![5; COUNTS + 3];
+    let first = L::read(&file.bytes(), file.revision, &mut old, &mut counts);
+    let mut own = own_counts(&old, n);
+    own.extend([5; 3]);
+    let (mut edited, mut counts_edited) = (old.clone(), own.clone());
+    let answer = L::edit(&mut edited, n, line, text, file.revision, &mut counts_edited);
+    let (mut fresh, mut counts_fresh) = (old.clone(), own.clone());
+    let reading = L::read(&changed, file.revision, &mut fresh, &mut counts_fresh);
 
     let fault = if first != (0, n as u32, 0) {
         Some("the file isn't read")
+    } else if counts != own {
+        Some("the file's counts aren't those of its holes")
+    } else if answer.0 != 0 && counts_edited != own {
+        Some("a refusal changes the counts")
     } else if text.contains(&b'\n') || text.contains(&b'\r') {
         (answer != (17, 0, 0) || edited != old).then_some("a line's end in the text")
     } else if edited != fresh {
         Some("the tables differ")
+    } else if counts_edited != counts_fresh {
+        Some("the counts differ")
     } else if answer.0 != 0 {
         (answer != reading || edited != old).then_some("the refusals differ")
     } else if reading != (0, n as u32, 0) {
@@ -1106,7 +1567,7 @@ fn written_reads_back<L: Library>(table: &[i32], n: usize) -> Result<(), String>
         table[..n * ROW].chunks(ROW).filter(|row| row[0] != 0).flatten().copied().collect();
     for revision in BOTH {
         let mut again = vec![-5; kept.len()];
-        let read = L::read(&text[..length], revision, &mut again);
+        let read = L::read(&text[..length], revision, &mut again, &mut [0; COUNTS]);
         if read != (0, (kept.len() / ROW) as u32, 0) || again != kept {
             return say("the text reads otherwise");
         }
@@ -1155,7 +1616,7 @@ fn printed(program: &[String], word: Option<&str>, file: &[u8]) -> std::io::Resu
     Ok(child.wait_with_output()?.stdout)
 }
 
-/// A file for the program `holes`, and its revision.
+/// A file for the programs `holes` and `counts`, and its revision.
 fn holes_input(case: u64, random: &mut Random) -> (Vec<u8>, Revision) {
     let mut revision = inputs::revision(random);
     let file = match case {
@@ -1183,7 +1644,7 @@ fn moves_input(case: u64, random: &mut Random) -> (Vec<u8>, Revision) {
     let file = inputs::valid_file(lines, random);
     let bytes = if random.below(10) == 0 { inputs::damaged(&file, random) } else { file.bytes() };
     let mut table = vec![0; ROW * MAX_LINES];
-    let (number, n, _) = plain::read(&bytes, file.revision, &mut table);
+    let (number, n, _) = plain::read(&bytes, file.revision, &mut table, &mut [0; COUNTS]);
     let n = if number == 0 { n as usize } else { lines };
     let line = match random.below(20) {
         0 => [0, n + 1, 9999, 10000][random.below(4)],
@@ -1268,6 +1729,7 @@ fn main() -> ExitCode {
     let printing: Option<Printing> = match arguments.first().map(String::as_str) {
         Some("print") => Some((holes_input, plain::print)),
         Some("moves") => Some((moves_input, plain::print_moves)),
+        Some("counts") => Some((holes_input, plain::print_counts)),
         _ => None,
     };
     if let Some((input, plain_print)) = printing {
@@ -1286,7 +1748,8 @@ fn main() -> ExitCode {
         return compare(count, seed);
     }
     eprintln!(
-        "usage: compare [COUNT [SEED]]\n       compare print|moves COUNT SEED PROGRAM [ARGUMENT ...]"
+        "usage: compare [COUNT [SEED]]\n       \
+         compare print|moves|counts COUNT SEED PROGRAM [ARGUMENT ...]"
     );
     ExitCode::FAILURE
 }

@@ -10,13 +10,15 @@
 //! A job's name says what is done, with which file, of how many lines; for an
 //! edit also where and how far it goes: `at-once` meets at the edited line,
 //! `never` runs to the last. Each run of an edit changes its line: two texts
-//! take turns. Both implementations get the same files and the same buffers, and
-//! read by the 2021 revision.
+//! take turns. An edit takes in the table's own counts, the next one those that it
+//! left. `hits` and `routs` ask once how many of them the first tool makes. Both
+//! implementations get the same files and the same buffers, and read by the 2021
+//! revision.
 
 #[path = "../../src/library.rs"]
 mod library;
 
-use library::{Answer, Library, Plain, Revision::Rev2021, Xnc, ROW};
+use library::{Answer, Library, Plain, Revision::Rev2021, Xnc, COUNTS, ROW};
 use std::hint::black_box;
 use std::process::ExitCode;
 use std::time::Instant;
@@ -107,6 +109,8 @@ enum Work {
     Read,
     Write,
     Holes,
+    Hits,
+    Routs,
     Edit { place: &'static str, never: bool },
 }
 
@@ -123,6 +127,8 @@ impl Job {
             Work::Read => "read",
             Work::Write => "write",
             Work::Holes => "holes",
+            Work::Hits => "hits",
+            Work::Routs => "routs",
             Work::Edit { place, never } => {
                 let until = if never { "never" } else { "at-once" };
                 return format!("edit-{}-{}-{place}-{until}", self.body.name(), self.lines);
@@ -156,6 +162,8 @@ fn jobs() -> Vec<Job> {
         jobs.push(Job { work: Work::Write, body, lines: 1_000 });
     }
     jobs.push(Job { work: Work::Holes, body: Body::Hits, lines: 1_000 });
+    jobs.push(Job { work: Work::Hits, body: Body::Hits, lines: 1_000 });
+    jobs.push(Job { work: Work::Routs, body: Body::Routs, lines: 1_000 });
     for body in [Body::Hits, Body::Routs] {
         for place in ["first", "middle", "end"] {
             for never in [false, true] {
@@ -186,10 +194,12 @@ fn jobs() -> Vec<Job> {
 
 // ----------------------------------------------------------------- running
 
-/// A job's file and buffers; the table is read before the job starts.
+/// A job's file and buffers; the table and its counts are read before the job
+/// starts.
 struct Bench {
     file: Vec<u8>,
     table: Vec<i32>,
+    counts: [u32; COUNTS],
     text: Vec<u8>,
     hole: [i32; 7],
 }
@@ -198,10 +208,11 @@ impl Bench {
     fn new(job: &Job) -> Bench {
         let file = job.body.file(job.lines);
         let mut table = vec![0; job.lines * ROW];
-        let answer = Plain::read(&file, Rev2021, &mut table);
+        let mut counts = [0; COUNTS];
+        let answer = Plain::read(&file, Rev2021, &mut table, &mut counts);
         assert_eq!(answer, (0, job.lines as u32, 0), "{}", job.name());
         let text = vec![0; file.len() + job.lines];
-        Bench { file, table, text, hole: [0; 7] }
+        Bench { file, table, counts, text, hole: [0; 7] }
     }
 
     fn run<L: Library>(&mut self, job: &Job, times: u64) {
@@ -210,7 +221,12 @@ impl Bench {
             Work::Nothing => {}
             Work::Read => {
                 for _ in 0..times {
-                    done(L::read(black_box(&self.file), Rev2021, black_box(&mut self.table)));
+                    done(L::read(
+                        black_box(&self.file),
+                        Rev2021,
+                        black_box(&mut self.table),
+                        black_box(&mut self.counts),
+                    ));
                 }
             }
             Work::Write => {
@@ -225,18 +241,35 @@ impl Bench {
                     }
                 }
             }
+            Work::Hits => {
+                for _ in 0..times {
+                    done(L::hits(black_box(&self.counts), black_box(1)));
+                }
+            }
+            Work::Routs => {
+                for _ in 0..times {
+                    done(L::routs(black_box(&self.counts), black_box(1)));
+                }
+            }
             Work::Edit { place, never } => {
                 let (line, texts) = job.texts(place, never);
                 let meeting = if never { n } else { line } as u32;
                 for turn in 0..times {
                     let text = texts[(turn % 2) as usize];
-                    let answer =
-                        L::edit(black_box(&mut self.table), n, line, black_box(text), Rev2021);
+                    let answer = L::edit(
+                        black_box(&mut self.table),
+                        n,
+                        line,
+                        black_box(text),
+                        Rev2021,
+                        black_box(&mut self.counts),
+                    );
                     assert_eq!(answer, (0, meeting, 0), "{}", job.name());
                 }
-                // An even number of edits leaves the table as it was.
+                // An even number of edits leaves the table and its counts as they were.
                 if times % 2 == 1 {
-                    done(L::edit(&mut self.table, n, line, texts[1], Rev2021));
+                    let (table, counts) = (&mut self.table, &mut self.counts);
+                    done(L::edit(table, n, line, texts[1], Rev2021, counts));
                 }
             }
         }

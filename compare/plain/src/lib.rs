@@ -1,5 +1,6 @@
-//! The XNC line table in plain Rust: a reader, an editor, a hole query, a
-//! writer and a print-out, written from the format's papers alone.
+//! The XNC line table in plain Rust: a reader, an editor, a hole query, counts
+//! of each tool's holes, a writer and print-outs, written from the format's
+//! papers alone.
 //!
 //! It shares no code, table or generated data with the library it is compared
 //! with. Every function answers a triple: on success `(0, count, 0)`, on refusal
@@ -34,6 +35,14 @@ const MAX_WORD: i32 = (1 << WORD_BITS) - 1;
 /// Numbers in a row, and in a hole.
 const ROW: usize = 16;
 const HOLE: usize = 7;
+
+/// Numbers in a block of counts: the hits of tools 1 to 99, then their routs.
+const COUNTS: usize = ROUTS + MAX_TOOL as usize;
+const HITS: usize = 0;
+const ROUTS: usize = MAX_TOOL as usize;
+
+/// The largest count that an edit takes.
+const MAX_COUNT: u32 = MAX_LINES as u32;
 
 /// Where a row has its state. All before it is the command's, and so is the one
 /// number behind it, the decimals of an arc's radius.
@@ -595,20 +604,32 @@ fn state_before(rows: &[i32], line: usize) -> Result<State, Refusal> {
 
 // ---------------------------------------------------------------- reading
 
-/// Reads `file` into `table`. Success counts the lines.
-pub fn read(file: &[u8], revision: Revision, table: &mut [i32]) -> Answer {
-    answer(try_read(file, revision, table))
+/// Reads `file` into `table`, and how many holes each tool makes into `counts`.
+/// Success counts the lines.
+///
+/// A block of counts under 198 numbers is refused 15 at line 0, after all other
+/// refusals. What stood in it before doesn't matter.
+pub fn read(file: &[u8], revision: Revision, table: &mut [i32], counts: &mut [u32]) -> Answer {
+    answer(try_read(file, revision, table, counts))
 }
 
-fn try_read(file: &[u8], revision: Revision, table: &mut [i32]) -> Result<u32, Refusal> {
-    let rows = rows_of(file, revision)?;
+fn try_read(
+    file: &[u8],
+    revision: Revision,
+    table: &mut [i32],
+    counts: &mut [u32],
+) -> Result<u32, Refusal> {
+    let mut made = Counts::default();
+    let rows = rows_of(file, revision, &mut made)?;
     let lent = table.get_mut(..rows.len()).ok_or(refused(refuse::TOO_SHORT, 0))?;
+    let lent_counts = counts.get_mut(..COUNTS).ok_or(refused(refuse::TOO_SHORT, 0))?;
     lent.copy_from_slice(&rows);
+    lent_counts.copy_from_slice(&made.numbers);
     Ok((rows.len() / ROW) as u32)
 }
 
-/// All rows of `file`, one after the other.
-fn rows_of(file: &[u8], revision: Revision) -> Result<Vec<i32>, Refusal> {
+/// All rows of `file`, one after the other; their holes are added to `made`.
+fn rows_of(file: &[u8], revision: Revision, made: &mut Counts) -> Result<Vec<i32>, Refusal> {
     need(file.len() <= MAX_FILE, refused(refuse::FILE_SIZE, 0))?;
     // No line that is read takes fewer than two bytes.
     let mut rows = Vec::with_capacity((file.len() / 2).min(MAX_LINES) * ROW);
@@ -624,7 +645,9 @@ fn rows_of(file: &[u8], revision: Revision) -> Result<Vec<i32>, Refusal> {
         let text = text.strip_suffix(b"\r").unwrap_or(text);
         let command =
             Command::of_line(text, revision).map_err(|number| refused_text(number, line, text))?;
-        state = state.after(command).map_err(|number| refused(number, line))?;
+        let before = state;
+        state = before.after(command).map_err(|number| refused(number, line))?;
+        made.add(hole_of(command, &before, &state));
         rows.extend_from_slice(&encode(command, &state));
         rest = &rest[end + 1..];
     }
@@ -637,8 +660,19 @@ fn rows_of(file: &[u8], revision: Revision) -> Result<Vec<i32>, Refusal> {
 /// Puts `text` in the place of one line. Success counts the meeting line.
 ///
 /// Only `text` is read by `revision`; the table may stem from the other.
-pub fn edit(table: &mut [i32], n: usize, line: usize, text: &[u8], revision: Revision) -> Answer {
-    answer(try_edit(table, n, line, text, revision))
+///
+/// Of `counts` the span's old holes are taken away, then its new ones are added.
+/// They are refused after all else: 15 at line 0 for a block under 198 numbers,
+/// then 18 at line 0 for a count over 1,000 or under what is taken from it.
+pub fn edit(
+    table: &mut [i32],
+    n: usize,
+    line: usize,
+    text: &[u8],
+    revision: Revision,
+    counts: &mut [u32],
+) -> Answer {
+    answer(try_edit(table, n, line, text, revision, counts))
 }
 
 fn try_edit(
@@ -647,13 +681,14 @@ fn try_edit(
     line: usize,
     text: &[u8],
     revision: Revision,
+    counts: &mut [u32],
 ) -> Result<u32, Refusal> {
     let numbers = numbers_of(table, n)?;
     let rows = &mut table[..numbers];
     need((1..=n).contains(&line), refused(refuse::LINE_NUMBER, 0))?;
     let ends_line = |byte: &u8| matches!(byte, b'\n' | b'\r');
     need(!text.iter().any(ends_line), refused(refuse::LINE_END, 0))?;
-    edit_rows(rows, line, text, revision)
+    edit_rows(rows, line, text, revision, counts)
 }
 
 /// As `edit`, of a line that is there and a text that holds no line's end.
@@ -662,27 +697,40 @@ fn edit_rows(
     line: usize,
     text: &[u8],
     revision: Revision,
+    counts: &mut [u32],
 ) -> Result<u32, Refusal> {
     let n = rows.len() / ROW;
     let before = state_before(rows, line)?;
-    let (_, mut old) = row_at(rows, line)?;
+    let (old_command, mut old) = row_at(rows, line)?;
     let at = line as u32;
     let command =
         Command::of_line(text, revision).map_err(|number| refused_text(number, at, text))?;
     let mut state = before.after(command).map_err(|number| refused(number, at))?;
 
-    // The new states of the span, kept apart until nothing can refuse.
+    // The span's new states, its old holes and its new ones, kept apart until
+    // nothing can refuse.
     let mut span = vec![state];
+    let (mut gone, mut made) = (Counts::default(), Counts::default());
+    gone.add(hole_of(old_command, &before, &old));
+    made.add(hole_of(command, &before, &state));
     let mut meeting = line;
     while state != old && meeting < n {
         meeting += 1;
         let (command, old_here) = row_at(rows, meeting)?;
-        state = state.after(command).map_err(|number| refused(number, meeting as u32))?;
-        old = old_here;
+        let next = state.after(command).map_err(|number| refused(number, meeting as u32))?;
+        gone.add(hole_of(command, &old, &old_here));
+        made.add(hole_of(command, &state, &next));
+        (old, state) = (old_here, next);
         span.push(state);
     }
     let agreed = state == old;
     need(agreed || state.phase == phase::ENDED, refused(refuse::UNFINISHED, n as u32 + 1))?;
+    let counts = counts.get_mut(..COUNTS).ok_or(refused(refuse::TOO_SHORT, 0))?;
+    need(gone.can_leave(counts), refused(refuse::TABLE, 0))?;
+
+    for ((count, gone), made) in counts.iter_mut().zip(&gone.numbers).zip(&made.numbers) {
+        *count = *count - gone + made;
+    }
 
     // Only the edited row gets a new command.
     let changed = &mut rows[(line - 1) * ROW..];
@@ -694,6 +742,9 @@ fn edit_rows(
 }
 
 // ------------------------------------------------------------------ holes
+
+/// The kind of a hit.
+const HIT: i32 = 9;
 
 /// The hole that a row makes: kind, tool, start, end, radius.
 fn hole_of(command: Command, before: &State, after: &State) -> Option<[i32; HOLE]> {
@@ -731,6 +782,61 @@ fn try_hole(table: &[i32], n: usize, line: usize, hole: &mut [i32]) -> Result<u3
         None => Ok(0),
     }
 }
+
+// ----------------------------------------------------------------- counts
+
+/// How many holes each tool makes: a hit is one of its hits, any other hole one
+/// of its routs.
+struct Counts {
+    numbers: [u32; COUNTS],
+}
+
+impl Default for Counts {
+    fn default() -> Counts {
+        Counts { numbers: [0; COUNTS] }
+    }
+}
+
+impl Counts {
+    /// Counts the hole that a row makes, if it makes one. A hole of tool 0, which
+    /// a bad table can have, isn't counted.
+    fn add(&mut self, hole: Option<[i32; HOLE]>) {
+        let (kind, tool) = match hole {
+            Some([kind, tool @ 1..=MAX_TOOL, ..]) => (kind, tool),
+            _ => return,
+        };
+        let first = if kind == HIT { HITS } else { ROUTS };
+        self.numbers[first + tool as usize - 1] += 1;
+    }
+
+    /// Whether these can be taken away from `counts`, which are all in range. All
+    /// are looked at, whatever the first ones say: that is faster.
+    fn can_leave(&self, counts: &[u32]) -> bool {
+        let fits = |(&count, &gone): (&u32, &u32)| (count <= MAX_COUNT) & (count >= gone);
+        counts.iter().zip(&self.numbers).map(fits).fold(true, |all, one| all & one)
+    }
+}
+
+/// Asks how many hits `tool` makes. Success counts them.
+///
+/// Refused 7 at line 0 for a tool not 1 to 99, then 15 at line 0 for a block of
+/// counts under 198 numbers. The counts themselves aren't tested.
+pub fn hits(counts: &[u32], tool: u32) -> Answer {
+    answer(try_count(counts, HITS, tool))
+}
+
+/// As `hits`, of the tool's routs.
+pub fn routs(counts: &[u32], tool: u32) -> Answer {
+    answer(try_count(counts, ROUTS, tool))
+}
+
+fn try_count(counts: &[u32], first: usize, tool: u32) -> Result<u32, Refusal> {
+    need((1..=MAX_TOOL as u32).contains(&tool), refused(refuse::RANGE, 0))?;
+    let lent = counts.get(..COUNTS).ok_or(refused(refuse::TOO_SHORT, 0))?;
+    Ok(lent[first + tool as usize - 1])
+}
+
+// -------------------------------------------------------------- diameters
 
 /// The diameter of `tool`, from its first declaration.
 ///
@@ -880,8 +986,8 @@ fn put_whole(out: &mut Vec<u8>, whole: u32) {
 /// What the program prints for `file`: unit, tools, holes and their count, or
 /// the one line of a refusal.
 pub fn print(file: &[u8], revision: Revision) -> Vec<u8> {
-    match rows_of(file, revision) {
-        Ok(rows) => holes_printed(&rows),
+    match Board::read(file, revision) {
+        Ok(board) => holes_printed(&board),
         Err(refusal) => refusal_printed(refusal),
     }
 }
@@ -899,6 +1005,13 @@ struct Board {
 }
 
 impl Board {
+    /// The board of a file. What its reading counts isn't used: print-outs count
+    /// the holes.
+    fn read(file: &[u8], revision: Revision) -> Result<Board, Refusal> {
+        let rows = rows_of(file, revision, &mut Counts::default())?;
+        Ok(Board::of(&rows))
+    }
+
     fn of(rows: &[i32]) -> Board {
         let mut board = Board {
             states: Vec::new(),
@@ -923,7 +1036,7 @@ impl Board {
 fn put_hole(out: &mut Vec<u8>, line: usize, hole: [i32; HOLE]) {
     let [kind, tool, start_x, start_y, x, y, radius] = hole;
     let letter = match kind {
-        9 => 'H',
+        HIT => 'H',
         12 => 'L',
         13 => 'C',
         _ => 'A',
@@ -931,8 +1044,7 @@ fn put_hole(out: &mut Vec<u8>, line: usize, hole: [i32; HOLE]) {
     let _ = writeln!(out, "{line}\t{letter}\t{tool}\t{start_x}\t{start_y}\t{x}\t{y}\t{radius}");
 }
 
-fn holes_printed(rows: &[i32]) -> Vec<u8> {
-    let board = Board::of(rows);
+fn holes_printed(board: &Board) -> Vec<u8> {
     let mut out = Vec::new();
     let unit = match board.states.last() {
         Some(state) if state.unit == unit::INCH => "INCH",
@@ -955,6 +1067,28 @@ fn holes_printed(rows: &[i32]) -> Vec<u8> {
     out
 }
 
+/// What the program `counts` prints: for each declared tool, by number, its
+/// diameter, its hits and its routs; or the one line of a refusal.
+pub fn print_counts(file: &[u8], revision: Revision) -> Vec<u8> {
+    match Board::read(file, revision) {
+        Ok(board) => counts_printed(&board),
+        Err(refusal) => refusal_printed(refusal),
+    }
+}
+
+fn counts_printed(board: &Board) -> Vec<u8> {
+    let mut out = Vec::new();
+    for (tool, diameter) in board.diameters.iter().enumerate() {
+        if let Some(diameter) = diameter {
+            let of_tool = || board.holes.iter().flatten().filter(|hole| hole[1] as usize == tool);
+            let hits = of_tool().filter(|hole| hole[0] == HIT).count();
+            let routs = of_tool().count() - hits;
+            let _ = writeln!(out, "{tool}\t{diameter}\t{hits}\t{routs}");
+        }
+    }
+    out
+}
+
 /// What the program `moves` prints: its input's first line has a line's number,
 /// a tab and the new text, and the file follows. No edit is used: the file and
 /// the edited file are both read, by one revision.
@@ -970,13 +1104,13 @@ pub fn print_moves(input: &[u8], revision: Revision) -> Vec<u8> {
 }
 
 fn moves_printed(first: &[u8], file: &[u8], revision: Revision) -> Result<Vec<u8>, Refusal> {
-    let old = Board::of(&rows_of(file, revision)?);
+    let old = Board::read(file, revision)?;
     let lines = old.states.len();
     let (line, text) = asked(first)
         .filter(|(line, _)| (1..=lines).contains(line))
         .ok_or(refused(refuse::LINE_NUMBER, 0))?;
     need(!text.contains(&b'\r'), refused(refuse::LINE_END, 0))?;
-    let new = Board::of(&rows_of(&with_line(file, line, text), revision)?);
+    let new = Board::read(&with_line(file, line, text), revision)?;
 
     let agree = |line: usize| old.states[line - 1] == new.states[line - 1];
     let meeting = (line..=lines).find(|&line| agree(line)).unwrap_or(lines);

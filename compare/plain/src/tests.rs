@@ -9,6 +9,46 @@ const PATTERN: i32 = -77;
 
 const BOTH: [Revision; 2] = [Rev2019, Rev2021];
 
+/// What stands in a block of counts before a reading.
+const UNUSED: u32 = 123_456_789;
+
+/// The counts of a table's rows, each asked for its hole by itself.
+fn counted(table: &[i32], n: usize) -> Vec<u32> {
+    let mut counts = vec![0; COUNTS];
+    for row in table.chunks_exact(ROW).take(n) {
+        let mut found = [0; HOLE];
+        if hole(row, 1, 1, &mut found) == (0, 1, 0) && found[1] != 0 {
+            let first = if found[0] == 9 { 0 } else { 99 };
+            counts[first + found[1] as usize - 1] += 1;
+        }
+    }
+    counts
+}
+
+/// Reads, with counts that must be the table's own where the file is accepted.
+fn read(file: &[u8], revision: Revision, table: &mut [i32]) -> Answer {
+    let mut counts = vec![UNUSED; COUNTS + 2];
+    let answer = super::read(file, revision, table, &mut counts);
+    let mut expected = match answer {
+        (0, n, _) => counted(table, n as usize),
+        _ => vec![UNUSED; COUNTS],
+    };
+    expected.extend([UNUSED; 2]);
+    assert_eq!(counts, expected);
+    answer
+}
+
+/// Edits with the table's own counts, which must be so again afterwards.
+fn edit(table: &mut [i32], n: usize, line: usize, text: &[u8], revision: Revision) -> Answer {
+    let mut counts = counted(table, n);
+    counts.extend([UNUSED; 2]);
+    let answer = super::edit(table, n, line, text, revision, &mut counts);
+    let mut expected = counted(table, n);
+    expected.extend([UNUSED; 2]);
+    assert_eq!(counts, expected);
+    answer
+}
+
 fn verdict(file: &[u8]) -> Answer {
     verdict_by(Rev2021, file)
 }
@@ -1804,6 +1844,371 @@ fn refused_moves_are_printed_with_their_columns() {
     }
     assert_eq!(moves("3\tT1C0", BENCH, Rev2019), "refused\t7\t3\t4\n");
     assert_eq!(moves("3\tT1C0", BENCH, Rev2021), "refused\t5\t3\t0\n");
+}
+
+// ------------------------------------------------- how many of each drill
+
+/// Counts with these hits and routs, each a tool and how many.
+fn counts_of(hits: &[(usize, u32)], routs: &[(usize, u32)]) -> Vec<u32> {
+    let mut counts = vec![0; 198];
+    for &(tool, count) in hits {
+        counts[tool - 1] = count;
+    }
+    for &(tool, count) in routs {
+        counts[98 + tool] = count;
+    }
+    counts
+}
+
+/// Those of the bench file.
+fn bench_counts() -> Vec<u32> {
+    counts_of(&[(1, 1)], &[(7, 2)])
+}
+
+/// The counts that a file is read to.
+fn counts_read(file: &str) -> Vec<u32> {
+    let mut counts = vec![UNUSED; 198];
+    let mut table = vec![0; ROW * MAX_LINES];
+    let answer = super::read(file.as_bytes(), Rev2021, &mut table, &mut counts);
+    assert_eq!(answer, (0, file.lines().count() as u32, 0));
+    counts
+}
+
+/// An edit of the bench file from these counts: the answer and the counts
+/// afterwards. A refusal leaves the table and the counts.
+fn edited_from(counts: &[u32], line: usize, text: &str) -> (Answer, Vec<u32>) {
+    let mut table = bench();
+    let mut after = counts.to_vec();
+    let text = text.as_bytes();
+    let answer = super::edit(&mut table, BENCH_LINES, line, text, Rev2021, &mut after);
+    if answer.0 != 0 {
+        assert_eq!((table, &after[..]), (bench(), counts));
+    }
+    (answer, after)
+}
+
+const BAD_COUNTS: Answer = (18, 0, 0);
+
+#[test]
+fn bench_file_has_one_hit_and_two_routs() {
+    for revision in BOTH {
+        let mut table = vec![PATTERN; ROW * BENCH_LINES];
+        let mut counts = vec![UNUSED; 198];
+        let answer = super::read(BENCH.as_bytes(), revision, &mut table, &mut counts);
+        assert_eq!((answer, counts), ((0, 15, 0), bench_counts()));
+    }
+    let counts = counts_read(BENCH);
+    assert_eq!((hits(&counts, 1), routs(&counts, 1)), ((0, 1, 0), (0, 0, 0)));
+    assert_eq!((hits(&counts, 7), routs(&counts, 7)), ((0, 0, 0), (0, 2, 0)));
+    assert_eq!((hits(&counts, 99), routs(&counts, 99)), ((0, 0, 0), (0, 0, 0)));
+}
+
+#[test]
+fn example_file_is_counted_by_hand() {
+    let expected = counts_of(&[(1, 2), (2, 4), (3, 1)], &[(3, 1), (4, 6)]);
+    assert_eq!(counts_read(EXAMPLE), expected);
+    assert_eq!(counts_read(ATTRIBUTES), counts_of(&[(1, 3), (2, 3), (3, 3)], &[]));
+}
+
+#[test]
+fn every_tool_has_its_own_two_counts() {
+    for tool in 1..=99 {
+        let file = format!(
+            "M48\nINCH\nT{tool:02}C1\n%\nT{tool:02}\nG05\nX1Y1\nX2Y2\nX1Y1\nG00X0Y0\nM15\nG01X1Y0\n\
+             G02X2Y0A9\nG03X3Y0A9\nG01X0Y0\nG01X0Y0\nM16\nM30\n"
+        );
+        let counts = counts_read(&file);
+        assert_eq!(counts, counts_of(&[(tool, 3)], &[(tool, 5)]));
+        for other in 1..=99 {
+            let is_it = u32::from(other == tool);
+            assert_eq!(hits(&counts, other as u32), (0, 3 * is_it, 0));
+            assert_eq!(routs(&counts, other as u32), (0, 5 * is_it, 0));
+        }
+    }
+}
+
+#[test]
+fn lines_without_a_hole_are_not_counted() {
+    let file = "M48\nMETRIC\nT01C1\n;\n%\nT1\nG05\nG00X1Y1\nM15\nM16\nG05\n;X1Y1\nM30\n";
+    assert_eq!(counts_read(file), counts_of(&[], &[]));
+    assert_eq!(counts_read("M48\nMETRIC\n%\nM30\n"), counts_of(&[], &[]));
+}
+
+#[test]
+fn as_many_hits_as_a_file_can_have() {
+    let file =
+        |hits: usize| format!("M48\nINCH\nT01C1\n%\nT1\nG05\n{}M30\n", "X0Y0\n".repeat(hits));
+    assert_eq!(counts_read(&file(993)), counts_of(&[(1, 993)], &[]));
+}
+
+#[test]
+fn questions_refuse_tools_then_short_blocks() {
+    let counts: Vec<u32> = (0..200).map(|at| u32::MAX - at).collect();
+    for ask in [hits, routs] {
+        for tool in [0, 100, 101, 198, 257, 65_537, 1 << 31, u32::MAX] {
+            for length in [0, 197, 198, 200] {
+                assert_eq!(ask(&counts[..length], tool), (7, 0, 0), "{tool}");
+            }
+        }
+        for tool in [1, 50, 99] {
+            for length in [0, 1, 99, 197] {
+                assert_eq!(ask(&counts[..length], tool), (15, 0, 0), "{tool}");
+            }
+        }
+    }
+    // Any count is told, however large.
+    for length in [198, 199, 200] {
+        let counts = &counts[..length];
+        assert_eq!(hits(counts, 1), (0, u32::MAX, 0));
+        assert_eq!(hits(counts, 99), (0, u32::MAX - 98, 0));
+        assert_eq!(routs(counts, 1), (0, u32::MAX - 99, 0));
+        assert_eq!(routs(counts, 99), (0, u32::MAX - 197, 0));
+    }
+}
+
+#[test]
+fn reading_refuses_a_short_block_of_counts_last() {
+    for length in [0, 1, 99, 197] {
+        let try_read = |file: &str, rows: usize| {
+            let mut table = vec![PATTERN; ROW * rows];
+            let mut counts = vec![UNUSED; length];
+            let answer = super::read(file.as_bytes(), Rev2021, &mut table, &mut counts);
+            assert!(table.iter().all(|&number| number == PATTERN));
+            assert!(counts.iter().all(|&count| count == UNUSED));
+            answer
+        };
+        assert_eq!(try_read(BENCH, 15), (15, 0, 0));
+        assert_eq!(try_read(BENCH, 20), (15, 0, 0));
+        assert_eq!(try_read(BENCH, 14), (15, 0, 0));
+        assert_eq!(try_read(&replaced(8, "X2\tY3"), 15), (4, 8, 3));
+        assert_eq!(try_read(&replaced(15, ";"), 15), (14, 16, 0));
+        assert_eq!(try_read("", 15), (14, 1, 0));
+        assert_eq!(try_read(&"x".repeat(MAX_FILE + 1), 0), (1, 0, 0));
+    }
+}
+
+#[test]
+fn a_refused_reading_leaves_the_counts() {
+    let mut counts = bench_counts();
+    for file in [&replaced(8, "X2Y1000"), &replaced(15, ";"), "", "M48"] {
+        let mut table = vec![PATTERN; ROW * 20];
+        assert_ne!(super::read(file.as_bytes(), Rev2021, &mut table, &mut counts).0, 0);
+        assert_eq!(counts, bench_counts());
+    }
+    // Nor does a table that is too short let them change.
+    let mut short = vec![PATTERN; ROW * BENCH_LINES - 1];
+    let file = replaced(8, ";");
+    assert_eq!(super::read(file.as_bytes(), Rev2021, &mut short, &mut counts), (15, 0, 0));
+    assert_eq!(counts, bench_counts());
+}
+
+#[test]
+fn reading_puts_counts_in_the_place_of_any_others() {
+    for old in [0, 1, 1_001, u32::MAX] {
+        let mut table = vec![0; ROW * BENCH_LINES];
+        let mut counts = vec![old; 201];
+        let answer = super::read(BENCH.as_bytes(), Rev2021, &mut table, &mut counts);
+        assert_eq!(answer, (0, 15, 0));
+        assert_eq!(counts, [bench_counts(), vec![old; 3]].concat());
+    }
+}
+
+#[test]
+fn counts_after_edits_a_to_l() {
+    let same = bench_counts();
+    let cases = [
+        (3, "T01C0.6", (0, 3, 0), same.clone()),
+        (3, "T02C0.5", (10, 7, 0), same.clone()),
+        (2, "INCH", (0, 15, 0), same.clone()),
+        (6, ";", (12, 8, 0), same.clone()),
+        (8, "X2Y3", (0, 8, 0), same.clone()),
+        (9, ";", (0, 15, 0), counts_of(&[(1, 1)], &[(1, 2)])),
+        (12, "G01X4Y1", (0, 13, 0), same.clone()),
+        (13, "G03X8Y0A2", (0, 15, 0), same.clone()),
+        (13, "G03X8Y0A1.9", (13, 13, 0), same.clone()),
+        (15, ";", (14, 16, 0), same.clone()),
+        (11, "M30", (8, 12, 0), same.clone()),
+        (12, "G01X4Y0", (0, 12, 0), same.clone()),
+        // And some that take a hole away, or bring one in.
+        (8, ";", (0, 8, 0), counts_of(&[], &[(7, 2)])),
+        (7, "T7", (0, 9, 0), counts_of(&[(7, 1)], &[(7, 2)])),
+        (9, "T1", (0, 15, 0), counts_of(&[(1, 1)], &[(1, 2)])),
+        (13, ";", (0, 15, 0), counts_of(&[(1, 1)], &[(7, 1)])),
+        (13, "G02X6Y2A2", (0, 13, 0), same.clone()),
+        (1, "M48", (0, 1, 0), same.clone()),
+    ];
+    for (line, text, answer, counts) in cases {
+        assert_eq!(edited_from(&same, line, text), (answer, counts), "{line} {text}");
+    }
+}
+
+#[test]
+fn a_hole_is_brought_in_and_taken_away_again() {
+    let mut table = table_of(&replaced(8, ";"));
+    let mut counts = counts_of(&[], &[(7, 2)]);
+    let mut put = |text: &str| {
+        let text = text.as_bytes();
+        let answer = super::edit(&mut table, BENCH_LINES, 8, text, Rev2021, &mut counts);
+        assert_eq!(answer, (0, 8, 0));
+        counts.clone()
+    };
+    assert_eq!(put("X1Y1"), bench_counts());
+    assert_eq!(put("X2Y2"), bench_counts());
+    assert_eq!(put(";"), counts_of(&[], &[(7, 2)]));
+    assert_eq!(put("X2Y-3.5"), bench_counts());
+}
+
+#[test]
+fn counts_over_a_thousand_are_refused_wherever_they_stand() {
+    for at in 0..198 {
+        for (count, taken) in [(999, true), (1_000, true), (1_001, false), (u32::MAX, false)] {
+            let mut counts = bench_counts();
+            counts[at] = count;
+            // No hole moves; one goes; two go and come.
+            let refused = (BAD_COUNTS, counts.clone());
+            for (line, text, answer) in [(3, "T01C1", (0, 3, 0)), (12, "G01X4Y1", (0, 13, 0))] {
+                let expected = if taken { (answer, counts.clone()) } else { refused.clone() };
+                assert_eq!(edited_from(&counts, line, text), expected, "{at} {count}");
+            }
+            let mut gone = counts.clone();
+            gone[0] = gone[0].wrapping_sub(1);
+            let expected = if taken { ((0, 8, 0), gone) } else { refused };
+            assert_eq!(edited_from(&counts, 8, ";"), expected, "{at} {count}");
+        }
+    }
+}
+
+#[test]
+fn counts_under_what_the_span_takes_are_refused() {
+    // Edit f takes both routs of tool 7 and gives them to tool 1.
+    let cases = [
+        (counts_of(&[], &[(7, 2)]), Some(counts_of(&[], &[(1, 2)]))),
+        (counts_of(&[], &[(7, 3)]), Some(counts_of(&[], &[(1, 2), (7, 1)]))),
+        (counts_of(&[(1, 1)], &[(7, 1)]), None),
+        (counts_of(&[(1, 1)], &[]), None),
+        (counts_of(&[(7, 2)], &[(1, 2), (6, 2), (8, 2)]), None),
+    ];
+    for (counts, after) in cases {
+        let expected = match after {
+            Some(after) => ((0, 15, 0), after),
+            None => (BAD_COUNTS, counts.clone()),
+        };
+        assert_eq!(edited_from(&counts, 9, ";"), expected);
+    }
+    // What comes doesn't make up for what goes: the hit is of tool 1 before and after.
+    assert_eq!(edited_from(&counts_of(&[], &[(7, 2)]), 8, "X0Y0").0, BAD_COUNTS);
+    assert_eq!(edited_from(&counts_of(&[], &[(7, 1)]), 12, "G01X4Y1").0, BAD_COUNTS);
+    assert_eq!(edited_from(&counts_of(&[], &[(7, 2)]), 12, "G01X4Y1").0, (0, 13, 0));
+    // Only the span's holes are asked for.
+    assert_eq!(edited_from(&counts_of(&[], &[(7, 1)]), 12, "G01X4Y0").0, (0, 12, 0));
+    assert_eq!(edited_from(&counts_of(&[], &[]), 3, "T01C1").0, (0, 3, 0));
+}
+
+#[test]
+fn counts_of_another_table_may_pass_a_thousand() {
+    let counts = counts_of(&[(1, 1_000)], &[(1, 999), (7, 1_000)]);
+    let after = counts_of(&[(1, 1_000)], &[(1, 1_001), (7, 998)]);
+    assert_eq!(edited_from(&counts, 9, ";"), ((0, 15, 0), after.clone()));
+    // The next edit won't have them.
+    assert_eq!(edited_from(&after, 3, "T01C1"), (BAD_COUNTS, after));
+}
+
+#[test]
+fn counts_are_refused_after_all_else() {
+    let bad = vec![1_001; 198];
+    for counts in [&bad[..0], &bad[..1], &bad[..197], &bad] {
+        for (line, text, answer) in [
+            (0, "\n", (16, 0, 0)),
+            (8, "\n", (17, 0, 0)),
+            (8, "X2\tY1", (4, 8, 3)),
+            (8, "", (5, 8, 0)),
+            (6, ";", (12, 8, 0)),
+            (13, "G03X8Y0A1.9", (13, 13, 0)),
+            (15, ";", (14, 16, 0)),
+        ] {
+            assert_eq!(edited_from(counts, line, text).0, answer, "{text}");
+        }
+        let short = counts.len() < 198;
+        let last = if short { (15, 0, 0) } else { BAD_COUNTS };
+        for (line, text) in [(3, "T01C0.6"), (8, ";"), (9, ";"), (12, "G01X4Y0")] {
+            assert_eq!(edited_from(counts, line, text).0, last, "{text}");
+        }
+        let mut table = bench();
+        table[14 * ROW] = 16;
+        let mut lent = counts.to_vec();
+        let edit = |table: &mut [i32], n, lent: &mut [u32]| {
+            super::edit(table, n, 2, b"INCH", Rev2021, lent)
+        };
+        assert_eq!(edit(&mut table, 0, &mut lent), (18, 0, 0));
+        assert_eq!(edit(&mut table, BENCH_LINES, &mut lent), (18, 15, 0));
+        assert_eq!(lent, counts);
+    }
+}
+
+#[test]
+fn numbers_behind_the_counts_are_neither_tested_nor_changed() {
+    for behind in [0, 1_001, u32::MAX] {
+        let counts = [bench_counts(), vec![behind; 3]].concat();
+        let after = [counts_of(&[(1, 1)], &[(1, 2)]), vec![behind; 3]].concat();
+        assert_eq!(edited_from(&counts, 9, ";"), ((0, 15, 0), after));
+    }
+}
+
+#[test]
+fn holes_of_tool_0_are_not_counted() {
+    // A bad table: its hit, its routs and the lines between have no tool. Every row is in range.
+    let mut table = bench();
+    for row in table.chunks_mut(ROW) {
+        row[8] = 0;
+    }
+    for (line, text, answer) in [
+        (8, ";", (0, 8, 0)),
+        (13, ";", (0, 15, 0)),
+        (12, "G01X4Y1", (0, 13, 0)),
+        (13, "G01X6Y2", (0, 13, 0)),
+    ] {
+        let mut counts = counts_of(&[], &[]);
+        let text = text.as_bytes();
+        let found = super::edit(&mut table.clone(), BENCH_LINES, line, text, Rev2021, &mut counts);
+        assert_eq!((found, counts), (answer, counts_of(&[], &[])));
+    }
+    // A selection gives the routs behind it a tool, and takes none from tool 0.
+    let mut counts = counts_of(&[(99, 7)], &[]);
+    let answer = super::edit(&mut table, BENCH_LINES, 9, b"T7", Rev2021, &mut counts);
+    assert_eq!((answer, counts), ((0, 15, 0), counts_of(&[(99, 7)], &[(7, 2)])));
+}
+
+#[test]
+fn the_old_holes_are_those_of_the_old_rows() {
+    // A bad table: the second rout has another tool than the first.
+    let mut table = bench();
+    table[12 * ROW + 8] = 99;
+    let mut counts = counts_of(&[(99, 5)], &[(7, 1), (98, 1), (99, 1)]);
+    let answer = super::edit(&mut table, BENCH_LINES, 12, b"G01X4Y1", Rev2021, &mut counts);
+    // Row 13's old tool was 99, its new one is 7. Row 14 agrees.
+    assert_eq!(answer, (0, 14, 0));
+    assert_eq!(counts, counts_of(&[(99, 5)], &[(7, 2), (98, 1)]));
+}
+
+#[test]
+fn counts_are_printed_for_each_declared_tool() {
+    let print = |file: &str| String::from_utf8(print_counts(file.as_bytes(), Rev2021)).unwrap();
+    assert_eq!(print(BENCH), "1\t500000\t1\t0\n7\t1250000\t0\t2\n");
+    assert_eq!(print(&replaced(9, ";")), "1\t500000\t1\t2\n7\t1250000\t0\t0\n");
+    assert_eq!(
+        print(EXAMPLE),
+        "1\t600000\t2\t0\n2\t700000\t4\t0\n3\t800000\t1\t1\n4\t1000000\t0\t6\n"
+    );
+    assert_eq!(
+        print("M48\nINCH\nT99C999.999999\nT01C.000001\n%\nM30\n"),
+        "1\t1\t0\t0\n99\t999999999\t0\t0\n"
+    );
+    assert_eq!(print("M48\nINCH\n%\nM30\n"), "");
+    assert_eq!(print(""), "refused\t14\t1\t0\n");
+    assert_eq!(print(&replaced(13, "G03X6.0Y1600A1.0")), "refused\t7\t13\t9\n");
+    assert_eq!(print(&bench_of_2019()), "refused\t5\t3\t0\n");
+    let by_2019 = print_counts(bench_of_2019().as_bytes(), Rev2019);
+    assert_eq!(by_2019, print_counts(BENCH.as_bytes(), Rev2021));
 }
 
 /// All short texts over a few bytes: a column is named by 4 and 7 and by no other.

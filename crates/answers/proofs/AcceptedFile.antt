@@ -21,6 +21,7 @@ use Rattle.rules.specs.Lines.{Line, linesOf, AllEnded}
 use Rattle.rules.specs.State.{start, taken, hasEnded}
 use Rattle.rules.specs.Rows.{rowWidth, tableNumbers}
 use Rattle.rules.specs.Reading.{commandIn, Rows, runOf, fileOf, hasRoom, inRoom, readAnswer, readLeaves}
+use Rattle.rules.specs.Counting.{countsOf, readCounts}
 use Rattle.laws.proofs.Keeps.{start-ok}
 use Rattle.laws.proofs.Sizes.{room-says, room-is, no-room-is}
 use Rattle.laws.proofs.InRange.{RowsOk, reads-ok}
@@ -89,6 +90,10 @@ module _ (rev : Revision) (bs : List ℕ) (t : List ℤ) (rs : Rows) (e : fileOf
   pub read-writes : readLeaves rev bs t ≡ putAt t 0 (tableNumbers rs)
   unfolding readLeaves
   read-writes = rw (e, room-is t (length rs) h)
+
+  pub read-counts : readCounts rev bs t ≡ countsOf rs
+  unfolding readCounts
+  read-counts = rw (e, room-is t (length rs) h)
 
 -- accepted rows for which there is none
 pub read-short : (rev : Revision) (bs : List ℕ) (t : List ℤ) (rs : Rows) → fileOf rev bs ≡ accepted rs → length t < rowWidth * length rs → readAnswer rev bs t ≡ Refused noRoom 0

@@ -7,3 +7,4 @@ pub mod WrittenTable
 pub mod EditSpan
 pub mod Small
 pub mod HoleRanges
+pub mod OwnCounts

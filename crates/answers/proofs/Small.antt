@@ -1,5 +1,6 @@
 -- No line, no count and no column is large: how far the parts of each answer go.
 use mathlib.Core.Path.{_≡_, refl, subst}
+use mathlib.Core.Bool.{cond}
 use mathlib.Core.List.{List}
 use Prim.Native.Nat.{ℕ, _+_, _*_, _≤_}
 use native.Mathlib.Omega.{arith}
@@ -13,15 +14,17 @@ use Rattle.rules.specs.declared.State.{State}
 use Rattle.rules.specs.declared.Refusal.{Refusal}
 use Rattle.rules.specs.declared.Answer.{Answer}
 use Rattle.rules.specs.declared.Answer.the-variants.{Done, Refused}
+use Rattle.rules.specs.declared.Counts.{Counts}
 use Rattle.rules.specs.declared.HoleAnswer.the-variants as H
 use Rattle.rules.specs.declared.Revision.{Revision}
 use Rattle.rules.specs.Numbers.{maxLines, maxLine}
-use Rattle.rules.specs.Refusals.{noColumn, inColumn, refusal}
+use Rattle.rules.specs.Refusals.{noColumn, inColumn, refusal, badTable}
 use Rattle.rules.specs.Answers.{Said, success, numberOf, valueOf, columnOf, said}
 use Rattle.rules.specs.Answers as Answers
 use Rattle.rules.specs.Reading.{Rows, fileOf, hasRoom, inRoom, readAnswer}
 use Rattle.rules.specs.Rows.{entriesOf}
-use Rattle.rules.specs.Editing.{editOf, meetingOf, editAnswer}
+use Rattle.rules.specs.Counting.{countsFit}
+use Rattle.rules.specs.Editing.{editOf, meetingOf, meetingAnswer, oldRows, editCounted, editAnswer}
 use Rattle.rules.specs.Asking.{holeAnswer}
 use Rattle.rules.specs.Writing.{longestLine, textOfRows, rowsOf, inBlock, writeAnswer}
 use Rattle.laws.proofs.Sizes.{sizes-say, line-says}
@@ -134,9 +137,22 @@ module _ (rev : Revision) (t : List ℤ) (n k : ℕ) (l : List ℕ) where
       done most (s .meeting) (omega (arith, z .counted, z .upto, sizes-say t n (edit-tests rev t n k l s e .sizes) .few))
   of-edit (refused e i) d h = h
 
-  pub edit-small : Small most (said (editAnswer rev t n k l))
-  unfolding editAnswer
-  edit-small = of-edit (editOf rev t n k l) refl edit-lines
+  pub meeting-small : Small most (said (meetingAnswer rev t n k l))
+  unfolding meetingAnswer
+  meeting-small = of-edit (editOf rev t n k l) refl edit-lines
+
+  -- the counts c handed in
+  of-counted : (c : Counts) (v : Verdict (Span Command State) Refusal) → editOf rev t n k l ≡ v → Small most (said (meetingOf v))
+      → Small most (said (meetingOf (onVerdict v refused (λ s. cond (countsFit (oldRows (entriesOf n t) k s) c) (accepted s) (refused badTable 0)))))
+  unfolding Upto
+  of-counted c (accepted s) e h =
+      cond-all (λ (v : Verdict (Span Command State) Refusal). Small most (said (meetingOf v))) (countsFit (oldRows (entriesOf n t) k s) c) (λ _. h)
+      (λ _. upto most 0 (omega arith) _ (omega arith, omega arith))
+  of-counted c (refused e i) d h = h
+
+  pub edit-small : (c : Counts) → Small most (said (editAnswer rev t n k l c))
+  unfolding editAnswer editCounted meetingAnswer
+  edit-small c = of-counted c (editOf rev t n k l) refl meeting-small
 
 module _ (t : List ℤ) (n : ℕ) where
   module _ (b : List ℕ) where

@@ -1,6 +1,6 @@
 -- Demand 3. A fresh reading of the edited file runs the lines before the edited one to the same state, then does what the
 -- edit's rerun does, and from the meeting line on is the old reading: equal states, equal lines left.
-use mathlib.Core.Path.{_≡_, refl, sym, ap, _∙_, subst₂}
+use mathlib.Core.Path.{_≡_, refl, sym, ap, _∙_, subst, subst₂}
 use mathlib.Core.Bool.{true}
 use mathlib.Core.List.{List, [], _++_}
 use Prim.Native.Nat.{ℕ, _+_, _-_, _*_, _≤_}
@@ -17,19 +17,21 @@ use Rattle.rules.specs.declared.Refusal.{Refusal}
 use Rattle.rules.specs.declared.Answer.{Answer}
 use Rattle.rules.specs.declared.Answer.the-variants.{Done, Refused}
 use Rattle.rules.specs.declared.Revision.{Revision}
+use Rattle.rules.specs.declared.Counts.{Counts}
 use Rattle.rules.specs.Numbers.{maxFile}
 use Rattle.rules.specs.State.{start}
 use Rattle.rules.specs.Rows.{rowWidth, tableNumbers}
 use Rattle.rules.specs.Reading.{Rows, fileOf, readAnswer, readLeaves}
-use Rattle.rules.specs.Editing.{noLineEnd, editRows, editAnswer, editLeaves}
+use Rattle.rules.specs.Counting.{countsOf, readCounts}
+use Rattle.rules.specs.Editing.{noLineEnd, editRows, editAnswer, editLeaves, editCounts}
 use Rattle.laws.proofs.Entries.{table-length}
 use Rattle.demands.specs.EditedFile.{LineOf, edited}
-use Rattle.demands.specs.Demand3.{SameVerdict, MeetsAt, SpanIs, AsReadAfresh, Demand3}
-use Rattle.answers.proofs.AcceptedFile.{read-done, file-run, file-of, file-few, file-ok, read-accepts, read-writes, read-refuses}
+use Rattle.demands.specs.Demand3.{SameVerdict, MeetsAt, SpanIs, SameCounts, AsReadAfresh, Demand3}
+use Rattle.answers.proofs.AcceptedFile.{read-done, file-run, file-of, file-few, file-ok, read-accepts, read-writes, read-counts, read-refuses}
 use Rattle.demands.proofs.EveryLine.{every-line, one-edited}
 use Rattle.demands.proofs.EditRows.{edit-agreement}
 use Rattle.demands.proofs.EditIsReading.{withSpan, edit-is-reading, line-from, line-upto}
-use Rattle.demands.proofs.EditTable.{table-again, edit-refuses, edit-accepts, edit-writes, new-length, same-outside}
+use Rattle.demands.proofs.EditTable.{table-again, edit-refuses, edit-accepts, edit-writes, own-fits, own-counts, new-length, same-outside}
 
 -- the table of an accepted file, whatever stands after its rows
 module _ (rev : Revision) {bs : List ℕ} {k : ℕ} (w : LineOf bs k) (rs : Rows) (read : fileOf rev bs ≡ accepted rs) (l : List ℕ) (hl : noLineEnd l ≡ true)
@@ -43,19 +45,21 @@ module _ (rev : Revision) {bs : List ℕ} {k : ℕ} (w : LineOf bs k) (rs : Rows
   upto : k ≤ length rs
   upto = line-upto rev w rs (file-run rev bs rs read) l hl
 
-  -- a table u, of which the edit's answer is a and the numbers it leaves v
-  AsAfresh : List ℤ → List ℤ → Answer → Type 0
-  AsAfresh u v a = SameVerdict (length rs) a (readAnswer rev (edited w l) u) × (v ≡ readLeaves rev (edited w l) u) × SpanIs rev bs (edited w l) u v (length rs) k a
+  -- a table u, of which the edit's answer is a, the numbers it leaves v, and the counts it hands back c
+  AsAfresh : List ℤ → List ℤ → Answer → Counts → Type 0
+  AsAfresh u v a c =
+      SameVerdict (length rs) a (readAnswer rev (edited w l) u) × (v ≡ readLeaves rev (edited w l) u) × SpanIs rev bs (edited w l) u v (length rs) k a
+      × SameCounts (countsOf rs) a c (readCounts rev (edited w l) u)
 
   as-refused : (e : Refusal) (i : ℕ) → editRows rev (allHold rs) k l ≡ refused e i
-      → AsAfresh (tableNumbers rs ++ rest) (tableNumbers rs ++ rest) (Refused e i)
+      → AsAfresh (tableNumbers rs ++ rest) (tableNumbers rs ++ rest) (Refused e i) (countsOf rs)
   unfolding AsAfresh
   as-refused e i h =
       let r = read-refuses rev (edited w l) (tableNumbers rs ++ rest) e i (fresh ∙ ap (withSpan rs k) h) in
-      (r .0, sym (r .1), refl)
+      (r .0, sym (r .1), refl, refl)
 
   as-accepted : (s : Span Command State) → editRows rev (allHold rs) k l ≡ accepted s
-      → AsAfresh (tableNumbers rs ++ rest) (tableNumbers (putAt rs (k - 1) (s .rows)) ++ rest) (Done (s .meeting))
+      → AsAfresh (tableNumbers rs ++ rest) (tableNumbers (putAt rs (k - 1) (s .rows)) ++ rest) (Done (s .meeting)) (countsOf (putAt rs (k - 1) (s .rows)))
   unfolding AsAfresh
   as-accepted s h =
       let new : Rows = putAt rs (k - 1) (s .rows) in
@@ -69,22 +73,26 @@ module _ (rev : Revision) {bs : List ℕ} {k : ℕ} (w : LineOf bs k) (rs : Rows
           record { old = rs; new = new; read-old = read; read-new = f; first = edit-agreement rev rs k from upto l s h },
           same-outside rev rs rest (file-ok rev bs rs read) (file-few rev bs rs read) k from upto l hl s h (file-ok rev (edited w l) new f),
         ),
+        sym (read-counts rev (edited w l) (tableNumbers rs ++ rest) new f room),
       )
 
   as-afresh : (v : Verdict (Span Command State) Refusal) → editRows rev (allHold rs) k l ≡ v
-      → AsAfresh (tableNumbers rs ++ rest) (editLeaves rev (tableNumbers rs ++ rest) (length rs) k l) (editAnswer rev (tableNumbers rs ++ rest) (length rs) k l)
+      → AsAfresh (tableNumbers rs ++ rest) (editLeaves rev (tableNumbers rs ++ rest) (length rs) k l (countsOf rs))
+      (editAnswer rev (tableNumbers rs ++ rest) (length rs) k l (countsOf rs)) (editCounts rev (tableNumbers rs ++ rest) (length rs) k l (countsOf rs))
   as-afresh (refused e i) h =
-      let r = edit-refuses rev rs rest (file-ok rev bs rs read) (file-few rev bs rs read) k from upto l hl e i h in
-      subst₂ (AsAfresh (tableNumbers rs ++ rest)) (sym (r .1)) (sym (r .0)) (as-refused e i h)
+      let r = edit-refuses rev rs rest (file-ok rev bs rs read) (file-few rev bs rs read) k from upto l hl (countsOf rs) e i h in
+      rw (r .0, r .1, r .2) (as-refused e i h)
   as-afresh (accepted s) h =
-      subst₂ (AsAfresh (tableNumbers rs ++ rest))
-      (sym (edit-writes rev rs rest (file-ok rev bs rs read) (file-few rev bs rs read) k from upto l hl s h))
-      (sym (edit-accepts rev rs rest (file-ok rev bs rs read) (file-few rev bs rs read) k from upto l hl s h))
-      (as-accepted s h)
+      let own = own-fits rev rs rest (file-ok rev bs rs read) (file-few rev bs rs read) k from upto l hl s h in
+      rw (
+        edit-accepts rev rs rest (file-ok rev bs rs read) (file-few rev bs rs read) k from upto l hl s h (countsOf rs) own,
+        edit-writes rev rs rest (file-ok rev bs rs read) (file-few rev bs rs read) k from upto l hl s h (countsOf rs) own,
+        own-counts rev rs rest (file-ok rev bs rs read) (file-few rev bs rs read) k from upto l hl s h,
+      ) (as-accepted s h)
 
-  whole : AsReadAfresh rev bs (edited w l) (tableNumbers rs ++ rest) (length rs) k l
+  whole : AsReadAfresh rev bs (edited w l) (tableNumbers rs ++ rest) (countsOf rs) (length rs) k l
   unfolding AsAfresh
-  whole = let a = as-afresh (editRows rev (allHold rs) k l) refl in record { verdict = a .0; table = a .1; span = a .2 }
+  whole = let a = as-afresh (editRows rev (allHold rs) k l) refl in record { verdict = a .0; table = a .1; counts = a .3; span = a .2 }
 
 -- ---- a file that was read
 
@@ -100,12 +108,13 @@ module _ (rev : Revision) (bs : List ℕ) (t : List ℤ) (n : ℕ) (h : readAnsw
       let r = file-run rev bs (d .rows) (d .read) in
       (line-from rev w (d .rows) r [] refl, omega (arith, line-upto rev w (d .rows) r [] refl, d .counted))
 
-  as-read : (k : ℕ) (w : LineOf bs k) (l : List ℕ) → noLineEnd l ≡ true → length (edited w l) ≤ maxFile → AsReadAfresh rev bs (edited w l) (readLeaves rev bs t) n k l
+  as-read : (k : ℕ) (w : LineOf bs k) (l : List ℕ) → noLineEnd l ≡ true → length (edited w l) ≤ maxFile
+      → AsReadAfresh rev bs (edited w l) (readLeaves rev bs t) (readCounts rev bs t) n k l
   as-read k w l hl hb =
       let d = read-done rev bs t n h in
-      subst₂ (λ (u : List ℤ) (m : ℕ). AsReadAfresh rev bs (edited w l) u m k l)
-      (sym (read-writes rev bs t (d .rows) (d .read) (d .room))) (d .counted)
-      (whole rev w (d .rows) (d .read) l hl hb (drop (0 + length (tableNumbers (d .rows))) t))
+      subst (λ (m : ℕ). AsReadAfresh rev bs (edited w l) (readLeaves rev bs t) (readCounts rev bs t) m k l) (d .counted)
+      (rw (read-writes rev bs t (d .rows) (d .read) (d .room), read-counts rev bs t (d .rows) (d .read) (d .room))
+      (whole rev w (d .rows) (d .read) l hl hb (drop (0 + length (tableNumbers (d .rows))) t)))
 
 meets-once : {rev : Revision} (old-file new-file : List ℕ) (k m n : ℕ) → MeetsAt rev old-file new-file k m → MeetsAt rev old-file new-file k n → m ≡ n
 meets-once old-file new-file k m n v w =

@@ -19,6 +19,7 @@ use Rattle.rules.specs.declared.HoleAnswer.the-variants as H
 use Rattle.rules.specs.declared.DiameterAnswer.{DiameterAnswer}
 use Rattle.rules.specs.declared.DiameterAnswer.the-variants.{Is, Refused}
 use Rattle.rules.specs.declared.Revision.{Revision}
+use Rattle.rules.specs.declared.Counts.{Counts}
 use Rattle.rules.specs.Refusals.{noSuchLine, noSuchTool}
 use Rattle.rules.specs.Numbers.{maxTool, isTool}
 use Rattle.rules.specs.Ranges.{NumberOk, CommandOk}
@@ -127,13 +128,13 @@ module _ {rev : Revision} (tool k : ℕ) (l : List ℕ) (s : Span Command State)
       → diameterBy tool (commandsOf (putAt z j (s .rows))) ≡ diameterBy tool (commandsOf z)) rs k a b
       (λ os r ys e h old. diameter-here os r ys e h (subst (λ (z : _). LeavesTool tool (z .command)) (getD-append-seam os r ys noRow) old))
 
-after-edit : {rev : Revision} (t : List ℤ) (n : ℕ) (rs : Rows) → Good t n rs → (k : ℕ) (l : List ℕ) (m tool : ℕ) → editAnswer rev t n k l ≡ Done m
+after-edit : {rev : Revision} (t : List ℤ) (n : ℕ) (rs : Rows) → Good t n rs → (k : ℕ) (l : List ℕ) (counts : Counts) (m tool : ℕ) → editAnswer rev t n k l counts ≡ Done m
     → LeavesTool tool (rowOf rs k .command) → ((c : Command) → SpellsLine rev l c → LeavesTool tool c)
-    → diameterAnswer (editLeaves rev t n k l) n tool ≡ diameterAnswer t n tool
-after-edit {rev} t n rs g k l m tool h old new =
-    let d = edit-done rev t n k l m h in
-    let e = edit-good rev t n rs g k l (d .span) (d .verdict) in
-    good-diameter (editLeaves rev t n k l) n (putAt rs (k - 1) (d .span .rows)) (e .good) tool
+    → diameterAnswer (editLeaves rev t n k l counts) n tool ≡ diameterAnswer t n tool
+after-edit {rev} t n rs g k l counts m tool h old new =
+    let d = edit-done rev t n k l counts m h in
+    let e = edit-good rev t n rs g k l counts (d .span) (d .verdict) (d .fit) in
+    good-diameter (editLeaves rev t n k l counts) n (putAt rs (k - 1) (d .span .rows)) (e .good) tool
     ∙ ap (λ (a : DiameterAnswer). cond (isTool tool) a (Refused noSuchTool 0))
     (diameter-left tool k l (d .span) new rs (e .from) (e .upto) (e .made) old)
     ∙ sym (good-diameter t n rs g tool)

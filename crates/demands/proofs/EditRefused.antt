@@ -27,7 +27,7 @@ use Rattle.rules.specs.Commands.{lineOf}
 use Rattle.rules.specs.State.{over, taken, hasEnded, sameState}
 use Rattle.rules.specs.Rows.{entriesOf, sizesFit}
 use Rattle.rules.specs.Reading.{sayOut, Rows}
-use Rattle.rules.specs.Editing.{isLine, noLineEnd, stateIn, beforeLine, onBefore, rerunFrom, editFrom, editRows, editOf, meetingOf, editAnswer}
+use Rattle.rules.specs.Editing.{isLine, noLineEnd, stateIn, beforeLine, onBefore, rerunFrom, editFrom, editRows, editOf, meetingOf, meetingAnswer}
 use Rattle.rules.specs.Spelling.{SpellsLine}
 use Rattle.rules.specs.Obeys.{Takes}
 use Rattle.rules.proofs.Same.{same-state-iff}
@@ -37,7 +37,7 @@ use Rattle.laws.proofs.Entries.{entries-length}
 use Rattle.obeys.proofs.Lines.{LineSays, line-sound, line-says}
 use Rattle.obeys.proofs.Files.{taken-takes, takes-taken, taken-refused, refused-taken}
 use Rattle.demands.specs.HoleRefused.{LineOfTable, foundAt, StateBefore}
-use Rattle.demands.specs.EditRefused.{NoLineEnd, MayEdit, rowsFrom, Stops, bad-row, untaken, too-soon, EditRefused, sizes, no-line, line-end, row-before, row-itself, new-line, rows, Meets, agree, last, EditRefusedExactly}
+use Rattle.demands.specs.EditRefused.{NoLineEnd, MayEdit, rowsFrom, Stops, bad-row, untaken, too-soon, LineStays, sizes, no-line, line-end, row-before, row-itself, new-line, rows, Meets, agree, last}
 use Rattle.demands.proofs.HoleRefused.{line-of, no-line-of, line-not, BeforeIs, before-is, is-before, bad-before}
 
 -- ---- a line end
@@ -85,7 +85,7 @@ by-machine = unmet-map (λ p c q w. takes-taken w)
 module _ (rev : Revision) (t : List ℤ) (n k : ℕ) (l : List ℕ) where
   EditSays : Verdict (Span Command State) Refusal → Type 0
   EditSays (accepted s) = Meets rev t n k l (s .meeting)
-  EditSays (refused e i) = EditRefused rev t n k l e i
+  EditSays (refused e i) = LineStays rev t n k l e i
 
   -- from the state p before line k, whose old row left the state o: the new line, and the rows from its command on
   abbrev newLine : State → State → Verdict (Span Command State) Refusal
@@ -105,7 +105,7 @@ module _ (rev : Revision) (t : List ℤ) (n k : ℕ) (l : List ℕ) where
       unfolding EditSays EndsAt
       ends-says es v d (halted {new = new} {e = e} {j = j} u h m) =
           let z : k + length new ≡ j = omega (arith, m, w .line .from) in
-          subst (EditRefused rev t n k l e) z (rows w sp d (by-relation u) (halts-stop h))
+          subst (LineStays rev t n k l e) z (rows w sp d (by-relation u) (halts-stop h))
       ends-says es v d (met {new = new} {r = r} left {s = s} u h m q) =
           let z : k + length new ≡ s .meeting = omega (arith, m, w .line .from) in
           subst (Meets rev t n k l) z (agree left w sp d (by-relation u) (taken-takes (lastOf p new) (r .command) (r .state) h))
@@ -161,7 +161,7 @@ module _ (rev : Revision) (t : List ℤ) (n k : ℕ) (l : List ℕ) where
 
   -- ---- and the other way
 
-  refused-edit : {e : Refusal} {i : ℕ} → EditRefused rev t n k l e i → editOf rev t n k l ≡ refused e i
+  refused-edit : {e : Refusal} {i : ℕ} → LineStays rev t n k l e i → editOf rev t n k l ≡ refused e i
   unfolding editOf editRows EndsAt
   refused-edit (sizes h) = rw (sizes-bad t n h)
   refused-edit (no-line z h) = rw (sizes-fit t n z, line-not t n k z h)
@@ -194,28 +194,27 @@ module _ (rev : Revision) (t : List ℤ) (n k : ℕ) (l : List ℕ) where
 
   -- ---- the answer
 
-  why : (e : Refusal) (i : ℕ) (v : Verdict (Span Command State) Refusal) → EditSays v → meetingOf v ≡ Refused e i → EditRefused rev t n k l e i
+  why : (e : Refusal) (i : ℕ) (v : Verdict (Span Command State) Refusal) → EditSays v → meetingOf v ≡ Refused e i → LineStays rev t n k l e i
   unfolding EditSays
   why e i (accepted s) w h = absurd (let z : _≡_ {A = ℕ} 0 1 = cc in omega arith)
   why e i (refused a j) w h =
       let x : a ≡ e = cc in
       let y : j ≡ i = cc in
-      subst₂ (EditRefused rev t n k l) x y w
+      subst₂ (LineStays rev t n k l) x y w
 
   where-met : (m : ℕ) (v : Verdict (Span Command State) Refusal) → EditSays v → meetingOf v ≡ Done m → Meets rev t n k l m
   unfolding EditSays
   where-met m (accepted s) w h = let x : s .meeting ≡ m = cc in subst (Meets rev t n k l) x w
   where-met m (refused a j) w h = absurd (let z : _≡_ {A = ℕ} 0 1 = cc in omega arith)
 
-pub edit-refused-exactly : EditRefusedExactly
-unfolding editAnswer
-edit-refused-exactly = record {
-  refused = λ rev t n k l e i. (
-    λ h. why rev t n k l e i (editOf rev t n k l) (edit-says rev t n k l) h,
-    λ w. ap meetingOf (refused-edit rev t n k l w),
-  );
-  done = λ rev t n k l m. (
+module _ (rev : Revision) (t : List ℤ) (n k : ℕ) (l : List ℕ) where
+  pub stays-exactly : (e : Refusal) (i : ℕ) → Exactly (meetingAnswer rev t n k l ≡ Refused e i) (LineStays rev t n k l e i)
+  unfolding meetingAnswer
+  stays-exactly e i = (λ h. why rev t n k l e i (editOf rev t n k l) (edit-says rev t n k l) h, λ w. ap meetingOf (refused-edit rev t n k l w))
+
+  pub meets-exactly : (m : ℕ) → Exactly (meetingAnswer rev t n k l ≡ Done m) (Meets rev t n k l m)
+  unfolding meetingAnswer
+  meets-exactly m = (
     λ h. where-met rev t n k l m (editOf rev t n k l) (edit-says rev t n k l) h,
     λ w. let a = met-edit rev t n k l w in ap meetingOf (a .1) ∙ ap Done (a .2),
-  );
-}
+  )

@@ -10,7 +10,7 @@ use lib.ListN.{length, take, drop, length-append, take-append-drop}
 use lib.Seq.{take-at, drop-at, length-take-le}
 use Rattle.lists.specs.Put.{putAt}
 use Rattle.lists.proofs.Put.{put-length, put-before, put-after}
-use Rattle.runs.specs.Machine.{accepted, refused, allHold, Span}
+use Rattle.runs.specs.Machine.{accepted, refused, Entry, allHold, Span}
 use Rattle.runs.specs.Agreement.{FirstAgreement}
 use Rattle.rules.specs.declared.Command.{Command}
 use Rattle.rules.specs.declared.State.{State}
@@ -18,17 +18,21 @@ use Rattle.rules.specs.declared.Refusal.{Refusal}
 use Rattle.rules.specs.declared.Answer.the-variants.{Done, Refused}
 use Rattle.rules.specs.declared.HoleAnswer.the-variants as H
 use Rattle.rules.specs.declared.Revision.{Revision}
+use Rattle.rules.specs.declared.Counts.{Counts}
 use Rattle.rules.specs.Refusals.{noSuchLine}
 use Rattle.rules.specs.Numbers.{maxLines}
 use Rattle.rules.specs.State.{start}
 use Rattle.rules.specs.Rows.{rowWidth, tableNumbers, Sizes}
 use Rattle.rules.specs.Reading.{Rows}
-use Rattle.rules.specs.Editing.{isLine, noLineEnd, editRows, editOf, editAnswer, editLeaves}
+use Rattle.rules.specs.Counting.{countsOf, countsFit}
+use Rattle.rules.specs.Editing.{isLine, noLineEnd, editRows, editOf, oldRows, editCounted, editAnswer, editLeaves, editCounts}
 use Rattle.rules.specs.Asking.{holeIn, holeAnswer}
 use Rattle.laws.proofs.Sizes.{line-says, line-is, sizes-fit}
 use Rattle.laws.proofs.InRange.{RowsOk}
 use Rattle.laws.proofs.Entries.{table-length, table-append, entries-table}
 use Rattle.answers.proofs.LineHoles.{hole-first, hole-rest}
+use Rattle.answers.proofs.EditSpan.{counted-fit, counted-refused}
+use Rattle.answers.proofs.OwnCounts.{own-fit, own-after}
 use Rattle.demands.specs.Demand3.{SameOutside}
 use Rattle.demands.proofs.EditRows.{edit-agreement, edit-counted}
 
@@ -78,10 +82,13 @@ module _ (rev : Revision) (rs : Rows) (rest : List ℤ) (ok : RowsOk rs) (few : 
   unfolding editOf
   edit-of = rw (sizes-fit (tableNumbers rs ++ rest) (length rs) (sizes rs refl), line-is (length rs) k a b, hl, entries-table rs rest ok)
 
-  pub edit-refuses : (e : Refusal) (i : ℕ) → editRows rev (allHold rs) k l ≡ refused e i
-      → (editAnswer rev (tableNumbers rs ++ rest) (length rs) k l ≡ Refused e i) × (editLeaves rev (tableNumbers rs ++ rest) (length rs) k l ≡ tableNumbers rs ++ rest)
-  unfolding editAnswer editLeaves
-  edit-refuses e i h = (rw (edit-of, h), rw (edit-of, h))
+  pub edit-refuses : (c : Counts) (e : Refusal) (i : ℕ) → editRows rev (allHold rs) k l ≡ refused e i
+      → (editAnswer rev (tableNumbers rs ++ rest) (length rs) k l c ≡ Refused e i) × (editLeaves rev (tableNumbers rs ++ rest) (length rs) k l c ≡ tableNumbers rs ++ rest)
+      × (editCounts rev (tableNumbers rs ++ rest) (length rs) k l c ≡ c)
+  unfolding editAnswer editLeaves editCounts
+  edit-refuses c e i h =
+      let r = counted-refused rev (tableNumbers rs ++ rest) (length rs) k l c e i (edit-of ∙ h) in
+      (rw r, rw r, rw r)
 
   module _ (s : Span Command State) (h : editRows rev (allHold rs) k l ≡ accepted s) where
     meets : FirstAgreement start rs (putAt rs (k - 1) (s .rows)) k (s .meeting)
@@ -96,13 +103,28 @@ module _ (rev : Revision) (rs : Rows) (rest : List ℤ) (ok : RowsOk rs) (few : 
     pub new-length : length (putAt rs (k - 1) (s .rows)) ≡ length rs
     new-length = put-length rs (k - 1) (s .rows) inside
 
-    pub edit-accepts : editAnswer rev (tableNumbers rs ++ rest) (length rs) k l ≡ Done (s .meeting)
-    unfolding editAnswer
-    edit-accepts = rw (edit-of, h)
+    -- the counts c handed in, which fit
+    module _ (c : Counts) (f : countsFit (oldRows (allHold rs) k s) c ≡ true) where
+      pub counted-accepts : editCounted rev (tableNumbers rs ++ rest) (length rs) k l c ≡ accepted s
+      counted-accepts =
+          counted-fit rev (tableNumbers rs ++ rest) (length rs) k l c s (edit-of ∙ h)
+          (ap (λ (es : List (Entry Command State)). countsFit (oldRows es k s) c) (entries-table rs rest ok) ∙ f)
 
-    pub edit-writes : editLeaves rev (tableNumbers rs ++ rest) (length rs) k l ≡ tableNumbers (putAt rs (k - 1) (s .rows)) ++ rest
-    unfolding editLeaves
-    edit-writes = rw (edit-of, h) (table-put rs (s .rows) rest (k - 1) inside)
+      pub edit-accepts : editAnswer rev (tableNumbers rs ++ rest) (length rs) k l c ≡ Done (s .meeting)
+      unfolding editAnswer
+      edit-accepts = rw counted-accepts
+
+      pub edit-writes : editLeaves rev (tableNumbers rs ++ rest) (length rs) k l c ≡ tableNumbers (putAt rs (k - 1) (s .rows)) ++ rest
+      unfolding editLeaves
+      edit-writes = rw counted-accepts (table-put rs (s .rows) rest (k - 1) inside)
+
+    -- the rows' own counts do
+    pub own-fits : countsFit (oldRows (allHold rs) k s) (countsOf rs) ≡ true
+    own-fits = own-fit rs k s few
+
+    pub own-counts : editCounts rev (tableNumbers rs ++ rest) (length rs) k l (countsOf rs) ≡ countsOf (putAt rs (k - 1) (s .rows))
+    unfolding editCounts
+    own-counts = rw (counted-accepts (countsOf rs) own-fits, entries-table rs rest ok) (own-after rs k s)
 
     -- ---- outside the span
 

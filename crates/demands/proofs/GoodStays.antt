@@ -12,11 +12,13 @@ use Rattle.runs.specs.Machine.{accepted, Row, allHold, Span, lastOf, Follows, S
 use Rattle.rules.specs.declared.Command.{Command}
 use Rattle.rules.specs.declared.State.{State}
 use Rattle.rules.specs.declared.Revision.{Revision}
+use Rattle.rules.specs.declared.Counts.{Counts}
 use Rattle.rules.specs.Numbers.{maxLines}
 use Rattle.rules.specs.State.{start, taken, hasEnded}
-use Rattle.rules.specs.Rows.{rowWidth, tableNumbers, Good}
+use Rattle.rules.specs.Rows.{rowWidth, tableNumbers, entriesOf, Good}
 use Rattle.rules.specs.Reading.{Rows}
-use Rattle.rules.specs.Editing.{noLineEnd, editRows, editOf, editLeaves}
+use Rattle.rules.specs.Counting.{countsFit}
+use Rattle.rules.specs.Editing.{noLineEnd, editRows, editOf, oldRows, editLeaves}
 use Rattle.laws.proofs.Keeps.{start-ok}
 use Rattle.laws.proofs.Sizes.{line-says}
 use Rattle.laws.proofs.InRange.{RowsOk, rows-append, rows-first, rows-rest, rows-take, rows-drop, last-ok, said-ok, redone-ok}
@@ -50,26 +52,26 @@ edit-ok rev rs k a b l s =
 -- ---- the table that is left
 
 module _ (rev : Revision) (rs : Rows) (rest : List ℤ) (ok : RowsOk rs) (few : length rs ≤ maxLines) (follows : Follows (StepBy taken) start 0 rs) (ends : hasEnded (lastOf start rs) ≡ true)
-    (k : ℕ) (a : 1 ≤ k) (b : k ≤ length rs) (l : List ℕ) (hl : noLineEnd l ≡ true) (s : Span Command State) (h : editRows rev (allHold rs) k l ≡ accepted s) where
-  left-good : Good (editLeaves rev (tableNumbers rs ++ rest) (length rs) k l) (length rs) (putAt rs (k - 1) (s .rows))
+    (k : ℕ) (a : 1 ≤ k) (b : k ≤ length rs) (l : List ℕ) (hl : noLineEnd l ≡ true) (s : Span Command State) (h : editRows rev (allHold rs) k l ≡ accepted s) (c : Counts) (f : countsFit (oldRows (allHold rs) k s) c ≡ true) where
+  left-good : Good (editLeaves rev (tableNumbers rs ++ rest) (length rs) k l c) (length rs) (putAt rs (k - 1) (s .rows))
   left-good =
       let new : Rows = putAt rs (k - 1) (s .rows) in
       let n : length new ≡ length rs = new-length rev rs rest ok few k a b l hl s h in
       let g = edit-follows rev rs k a b l s h follows ends in
       subst₂ (λ (u : List ℤ) (j : ℕ). Good u j new)
-      (sym (edit-writes rev rs rest ok few k a b l hl s h)) n
+      (sym (edit-writes rev rs rest ok few k a b l hl s h c f)) n
       (rows-table new rest (edit-ok rev rs k a b l s ok h) (omega (arith, n)) (g .follows) (g .ends))
 
--- an accepted edit of a good table, with its span
-module _ (rev : Revision) (t : List ℤ) (n : ℕ) (rs : Rows) (g : Good t n rs) (k : ℕ) (l : List ℕ) where
+-- an accepted edit of a good table, with its span; c are the counts handed in
+module _ (rev : Revision) (t : List ℤ) (n : ℕ) (rs : Rows) (g : Good t n rs) (k : ℕ) (l : List ℕ) (c : Counts) where
   pub record GoodEdit (s : Span Command State) : Type 0 where
     pub from : 1 ≤ k
     pub upto : k ≤ length rs
     pub made : editRows rev (allHold rs) k l ≡ accepted s
-    pub good : Good (editLeaves rev t n k l) n (putAt rs (k - 1) (s .rows))
+    pub good : Good (editLeaves rev t n k l c) n (putAt rs (k - 1) (s .rows))
 
-  pub edit-good : (s : Span Command State) → editOf rev t n k l ≡ accepted s → GoodEdit s
-  edit-good s h =
+  pub edit-good : (s : Span Command State) → editOf rev t n k l ≡ accepted s → countsFit (oldRows (entriesOf n t) k s) c ≡ true → GoodEdit s
+  edit-good s h f =
       let e = edit-tests rev t n k l s h in
       let w = good-whole t n rs g in
       let p = line-says n k (e .line) in
@@ -79,13 +81,14 @@ module _ (rev : Revision) (t : List ℤ) (n : ℕ) (rs : Rows) (g : Good t n rs)
         from = p .0;
         upto = b;
         made = made;
-        good = subst₂ (λ (u : List ℤ) (j : ℕ). Good (editLeaves rev u j k l) j (putAt rs (k - 1) (s .rows))) (sym (w .numbers)) (w .count)
-            (left-good rev rs (drop (rowWidth * n) t) (w .rows .in-range) (w .rows .count) (g .follows) (g .ends) k (p .0) b l (e .no-end) s made);
+        good = subst₂ (λ (u : List ℤ) (j : ℕ). Good (editLeaves rev u j k l c) j (putAt rs (k - 1) (s .rows))) (sym (w .numbers)) (w .count)
+            (left-good rev rs (drop (rowWidth * n) t) (w .rows .in-range) (w .rows .count) (g .follows) (g .ends) k (p .0) b l (e .no-end) s made c
+            (sym (ap (λ (es : _). countsFit (oldRows es k s) c) (g .found)) ∙ f));
       }
 
 pub good-stays : GoodStays
 good-stays = record {
-  stays = λ rev t n w k l m h.
-      let d = edit-done rev t n k l m h in
-      record { rows = putAt (w .rows) (k - 1) (d .span .rows); good = edit-good rev t n (w .rows) (w .good) k l (d .span) (d .verdict) .good };
+  stays = λ rev t n w k l c m h.
+      let d = edit-done rev t n k l c m h in
+      record { rows = putAt (w .rows) (k - 1) (d .span .rows); good = edit-good rev t n (w .rows) (w .good) k l c (d .span) (d .verdict) (d .fit) .good };
 }

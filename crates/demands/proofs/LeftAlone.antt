@@ -14,14 +14,17 @@ use Rattle.lists.proofs.Put.{put-length, put-before, put-after}
 use Rattle.runs.specs.Machine.{Verdict, accepted, refused, onVerdict, Span}
 use Rattle.rules.specs.declared.Command.{Command}
 use Rattle.rules.specs.declared.State.{State}
+use Rattle.lists.proofs.Choice.{cond-all}
 use Rattle.rules.specs.declared.Refusal.{Refusal}
 use Rattle.rules.specs.declared.Answer.the-variants.{Done, Refused}
 use Rattle.rules.specs.declared.Revision.{Revision}
+use Rattle.rules.specs.declared.Counts.{Counts}
 use Rattle.rules.specs.Refusals.{noColumn, inColumn, noRoom, badTable}
 use Rattle.rules.specs.Numbers.{maxLines, maxLine}
-use Rattle.rules.specs.Rows.{rowWidth, tableNumbers}
+use Rattle.rules.specs.Rows.{rowWidth, tableNumbers, entriesOf}
 use Rattle.rules.specs.Reading.{Rows, fileOf, hasRoom, inRoom, withRows, readAnswer, readLeaves}
-use Rattle.rules.specs.Editing.{editOf, meetingOf, leavesOf, editAnswer, editLeaves}
+use Rattle.rules.specs.Counting.{countsOf, noCounts, readCounts, countsFit, countsAfter}
+use Rattle.rules.specs.Editing.{editOf, meetingOf, leavesOf, oldRows, editCounted, editAnswer, editLeaves, editCounts}
 use Rattle.rules.specs.Writing.{longestLine, textOfRows, rowsOf, inBlock, withText, writeAnswer, writeLeaves}
 use Rattle.laws.proofs.Sizes.{sizes-say, line-says, room-says}
 use Rattle.laws.proofs.Entries.{table-length}
@@ -31,7 +34,7 @@ use Rattle.answers.proofs.Refused.{Told, faulty-told, edit-told, rows-told}
 use Rattle.answers.proofs.AcceptedFile.{read-done, read-writes, file-few}
 use Rattle.answers.proofs.GoodTables.{good-whole}
 use Rattle.answers.proofs.WrittenTable.{rows-good, write-done, write-writes}
-use Rattle.answers.proofs.EditSpan.{SpanOf, edit-tests, edit-done}
+use Rattle.answers.proofs.EditSpan.{SpanOf, edit-tests, edit-done, counted-fit, counted-says}
 use Rattle.answers.proofs.Small.{span-of}
 use Rattle.demands.specs.Demand1.{among, OnLine, columnRefusals, ColumnOnly, readRefusals, editRefusals, writeRefusals, ReadLeavesRest, EditLeavesRest, WriteLeavesRest}
 
@@ -99,18 +102,29 @@ module _ (rev : Revision) (bs : List ℕ) (t : List ℤ) where
   room-kept rs true h = put-length t 0 (tableNumbers rs) (omega (arith, table-length rs, room-says t (length rs) h))
   room-kept rs false h = refl
 
+  -- a refused file's counts
+  no-room-counts : (rs : Rows) (e : Refusal) (i : ℕ) (b : Bool) → cond b (Done (length rs)) (Refused noRoom 0) ≡ Refused e i → cond b (countsOf rs) noCounts ≡ noCounts
+  no-room-counts rs e i true h = absurd (let z : _≡_ {A = ℕ} 0 1 = cc in omega arith)
+  no-room-counts rs e i false h = refl
+
+  no-counts : (e : Refusal) (i : ℕ) (v : Verdict Rows Refusal) → onVerdict v Refused (inRoom t) ≡ Refused e i
+      → onVerdict v (λ e i. noCounts) (λ rs. cond (hasRoom t (length rs)) (countsOf rs) noCounts) ≡ noCounts
+  no-counts e i (accepted rs) h = no-room-counts rs e i (hasRoom t (length rs)) h
+  no-counts e i (refused a j) h = refl
+
   read-length : (v : Verdict Rows Refusal) → length (onVerdict v (λ e i. t) (withRows t)) ≡ length t
   read-length (accepted rs) = room-kept rs (hasRoom t (length rs)) refl
   read-length (refused e i) = refl
 
   pub read-rest : ReadLeavesRest rev bs t
-  unfolding readAnswer readLeaves
+  unfolding readAnswer readLeaves readCounts
   read-rest = record {
     refused = λ e i h. let w = not-read e i (fileOf rev bs) refl h in (w .0, w .1 .0, w .1 .1);
     column-only = λ e i h. not-read e i (fileOf rev bs) refl h .1 .2;
     inside = λ n h. let d = read-done rev bs t n h in (omega (arith, file-few rev bs (d .rows) (d .read), d .counted), omega (arith, d .room, d .counted));
     beyond = read-beyond;
     as-many = read-length (fileOf rev bs);
+    no-counts = λ e i h. no-counts e i (fileOf rev bs) h;
   }
 
 -- ---- editing
@@ -118,7 +132,7 @@ module _ (rev : Revision) (bs : List ℕ) (t : List ℤ) where
 abbrev InEdit : ℕ → Refusal → ℕ → Type 0
 InEdit n e i = (among editRefusals (e .number) ≡ true) × OnLine (n + 1) (maxLines + 1) i × ColumnOnly e
 
-module _ (rev : Revision) (t : List ℤ) (n k : ℕ) (l : List ℕ) where
+module _ (rev : Revision) (t : List ℤ) (n k : ℕ) (l : List ℕ) (c : Counts) where
   edit-refusals : Told (InEdit n) (editOf rev t n k l)
   edit-refusals =
       let z : OnLine (n + 1) (maxLines + 1) 0 = (omega arith, omega arith) in
@@ -148,11 +162,23 @@ module _ (rev : Revision) (t : List ℤ) (n k : ℕ) (l : List ℕ) where
           → (j : ℕ) → OnLine (n + 1) (maxLines + 1) j → InEdit n e j
       plain e a b c j o = (a, o, no-column e b c)
 
-  not-edited : (e : Refusal) (i : ℕ) (v : Verdict (Span Command State) Refusal) → Told (InEdit n) v → meetingOf v ≡ Refused e i → (leavesOf t k v ≡ t) × InEdit n e i
-  not-edited e i (accepted s) w h = absurd (let z : _≡_ {A = ℕ} 0 1 = cc in omega arith)
-  not-edited e i (refused a j) w h = let d : a ≡ e = cc in let z : j ≡ i = cc in (refl, subst₂ (InEdit n) d z w)
+  -- and last the counts
+  counted-told : (v : Verdict (Span Command State) Refusal) → Told (InEdit n) v
+      → Told (InEdit n) (onVerdict v refused (λ s. cond (countsFit (oldRows (entriesOf n t) k s) c) (accepted s) (refused badTable 0)))
+  counted-told (accepted s) w =
+      cond-all (Told (InEdit n)) (countsFit (oldRows (entriesOf n t) k s) c) (λ _. tt) (λ _. (refl, (omega arith, omega arith), no-column badTable refl refl))
+  counted-told (refused e i) w = w
 
-  module _ (s : Span Command State) (h : editOf rev t n k l ≡ accepted s) where
+  counted-refusals : Told (InEdit n) (editCounted rev t n k l c)
+  unfolding editCounted
+  counted-refusals = counted-told (editOf rev t n k l) edit-refusals
+
+  not-edited : (e : Refusal) (i : ℕ) (v : Verdict (Span Command State) Refusal) → Told (InEdit n) v → meetingOf v ≡ Refused e i
+      → (leavesOf t k v ≡ t) × InEdit n e i × (onVerdict v (λ e i. c) (λ s. countsAfter (oldRows (entriesOf n t) k s) (s .rows) c) ≡ c)
+  not-edited e i (accepted s) w h = absurd (let z : _≡_ {A = ℕ} 0 1 = cc in omega arith)
+  not-edited e i (refused a j) w h = let d : a ≡ e = cc in let z : j ≡ i = cc in (refl, subst₂ (InEdit n) d z w, refl)
+
+  module _ (s : Span Command State) (h : editOf rev t n k l ≡ accepted s) (f : countsFit (oldRows (entriesOf n t) k s) c ≡ true) where
     -- the span's rows stand inside
     record Inside : Type 0 where
       first : 1 ≤ k
@@ -168,16 +194,16 @@ module _ (rev : Revision) (t : List ℤ) (n k : ℕ) (l : List ℕ) where
         let z = span-of rev t n k l s h in
         record { first = p .0; span = z; few = sizes-say t n (d .sizes) .few; room = sizes-say t n (d .sizes) .room; end = omega (arith, table-length (s .rows), z .counted) }
 
-    edit-left : editLeaves rev t n k l ≡ putAt t (rowWidth * (k - 1)) (tableNumbers (s .rows))
+    edit-left : editLeaves rev t n k l c ≡ putAt t (rowWidth * (k - 1)) (tableNumbers (s .rows))
     unfolding editLeaves
-    edit-left = rw h
+    edit-left = rw (counted-fit rev t n k l c s h f)
 
-    edit-before : take (rowWidth * (k - 1)) (editLeaves rev t n k l) ≡ take (rowWidth * (k - 1)) t
+    edit-before : take (rowWidth * (k - 1)) (editLeaves rev t n k l c) ≡ take (rowWidth * (k - 1)) t
     edit-before =
         let c = inside in
         ap (take (rowWidth * (k - 1))) edit-left ∙ put-before t (rowWidth * (k - 1)) (tableNumbers (s .rows)) (omega (arith, c .span .upto, c .room))
 
-    edit-after : drop (rowWidth * (s .meeting)) (editLeaves rev t n k l) ≡ drop (rowWidth * (s .meeting)) t
+    edit-after : drop (rowWidth * (s .meeting)) (editLeaves rev t n k l c) ≡ drop (rowWidth * (s .meeting)) t
     edit-after =
         let c = inside in
         ap (drop (rowWidth * (s .meeting))) edit-left
@@ -188,24 +214,25 @@ module _ (rev : Revision) (t : List ℤ) (n k : ℕ) (l : List ℕ) where
         let c = inside in
         put-length t (rowWidth * (k - 1)) (tableNumbers (s .rows)) (omega (arith, c .end, c .span .counted, c .span .upto, c .room))
 
-  edit-length : (v : Verdict (Span Command State) Refusal) → editOf rev t n k l ≡ v
+  edit-length : (v : Verdict (Span Command State) Refusal) → editCounted rev t n k l c ≡ v
       → length (leavesOf t k v) ≡ length t
-  edit-length (accepted s) h = edit-kept s h
+  edit-length (accepted s) h = let w = counted-says rev t n k l c s h in edit-kept s (w .0) (w .1)
   edit-length (refused e i) h = refl
 
-  pub edit-rest : EditLeavesRest rev t n k l
-  unfolding editAnswer editLeaves
+  pub edit-rest : EditLeavesRest rev t n k l c
+  unfolding editAnswer editLeaves editCounts
   edit-rest = record {
-    refused = λ e i h. let w = not-edited e i (editOf rev t n k l) edit-refusals h in (w .0, w .1 .0, w .1 .1);
-    column-only = λ e i h. not-edited e i (editOf rev t n k l) edit-refusals h .1 .2;
+    refused = λ e i h. let w = not-edited e i (editCounted rev t n k l c) counted-refusals h in (w .0, w .1 .0, w .1 .1);
+    column-only = λ e i h. not-edited e i (editCounted rev t n k l c) counted-refusals h .1 .2;
     inside = λ m h.
-        let d = edit-done rev t n k l m h in
-        let c = inside (d .span) (d .verdict) in
+        let d = edit-done rev t n k l c m h in
+        let c = inside (d .span) (d .verdict) (d .fit) in
         (c .first, omega (arith, c .span .counted, c .span .some, d .meets), omega (arith, c .span .counted, c .span .upto, d .meets), c .few, c .room);
-    before = λ m h. let d = edit-done rev t n k l m h in edit-before (d .span) (d .verdict);
-    after = λ m h. let d = edit-done rev t n k l m h in
-        subst (λ (j : ℕ). drop (rowWidth * j) (editLeaves rev t n k l) ≡ drop (rowWidth * j) t) (d .meets) (edit-after (d .span) (d .verdict));
-    as-many = edit-length (editOf rev t n k l) refl;
+    before = λ m h. let d = edit-done rev t n k l c m h in edit-before (d .span) (d .verdict) (d .fit);
+    after = λ m h. let d = edit-done rev t n k l c m h in
+        subst (λ (j : ℕ). drop (rowWidth * j) (editLeaves rev t n k l c) ≡ drop (rowWidth * j) t) (d .meets) (edit-after (d .span) (d .verdict) (d .fit));
+    as-many = edit-length (editCounted rev t n k l c) refl;
+    counts-kept = λ e i h. not-edited e i (editCounted rev t n k l c) counted-refusals h .2;
   }
 
 -- ---- writing

@@ -15,6 +15,8 @@ pub mod WriteRefused
 pub mod GoodExactly
 pub mod HoleRefused
 pub mod EditRefused
+pub mod CountsExactly
+pub mod CountsOwn
 pub mod OneSpelling
 pub mod BenchFile
 pub mod WhichColumn

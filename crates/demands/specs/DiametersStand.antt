@@ -14,9 +14,11 @@ use Rattle.rules.specs.declared.Answer.the-variants.{Done}
 use Rattle.rules.specs.declared.HoleAnswer.the-variants.{Makes}
 use Rattle.rules.specs.declared.DiameterAnswer.the-variants.{Is}
 use Rattle.rules.specs.declared.Revision.{Revision}
+use Rattle.rules.specs.declared.Counts.{Counts}
 use Rattle.rules.specs.Numbers.{maxFile}
 use Rattle.rules.specs.Rows.{Good}
 use Rattle.rules.specs.Reading.{Rows, rowOf, readAnswer, readLeaves}
+use Rattle.rules.specs.Counting.{readCounts}
 use Rattle.rules.specs.Editing.{noLineEnd, editAnswer, editLeaves}
 use Rattle.rules.specs.Asking.{holeAnswer, diameterAnswer}
 use Rattle.rules.specs.Spelling.{SpellsLine}
@@ -41,17 +43,17 @@ pub record DiametersOf (t : List ℤ) (n : ℕ) (rs : Rows) : Type 0 where
   -- every hole's tool has one
   pub of-holes : (k : ℕ) (h : Hole) → holeAnswer t n k ≡ Makes h → (d : ℕ) × (diameterAnswer t n (h .tool) ≡ Is d)
   -- line k gets the text l: each tool that neither its old nor its new command declares
-  pub after-edit : (rev : Revision) (k : ℕ) (l : List ℕ) (m tool : ℕ) → editAnswer rev t n k l ≡ Done m
+  pub after-edit : (rev : Revision) (k : ℕ) (l : List ℕ) (counts : Counts) (m tool : ℕ) → editAnswer rev t n k l counts ≡ Done m
       → LeavesTool tool (rowOf rs k .command) → ((c : Command) → SpellsLine rev l c → LeavesTool tool c)
-      → diameterAnswer (editLeaves rev t n k l) n tool ≡ diameterAnswer t n tool
+      → diameterAnswer (editLeaves rev t n k l counts) n tool ≡ diameterAnswer t n tool
 
 -- line k of a file read into t gets the text l: each answer, of each line and each tool, is that of the edited file read afresh
 pub record AnswersAfresh (rev : Revision) (bs : List ℕ) (t : List ℤ) (n k : ℕ) (w : LineOf bs k) (l : List ℕ) : Type 0 where
   pub diameter : (tool : ℕ)
-      → diameterAnswer (editLeaves rev (readLeaves rev bs t) n k l) n tool
+      → diameterAnswer (editLeaves rev (readLeaves rev bs t) n k l (readCounts rev bs t)) n tool
       ≡ diameterAnswer (readLeaves rev (edited w l) (readLeaves rev bs t)) n tool
   pub hole : (j : ℕ)
-      → holeAnswer (editLeaves rev (readLeaves rev bs t) n k l) n j
+      → holeAnswer (editLeaves rev (readLeaves rev bs t) n k l (readCounts rev bs t)) n j
       ≡ holeAnswer (readLeaves rev (edited w l) (readLeaves rev bs t)) n j
 
 pub record DiametersStand : Type 0 where

@@ -9,6 +9,8 @@ pub mod GoodStays
 pub mod WriteRefused
 pub mod HoleRefused
 pub mod EditRefused
+pub mod CountsExactly
+pub mod CountsOwn
 pub mod OneSpelling
 pub mod DiametersStand
 pub mod BenchFile

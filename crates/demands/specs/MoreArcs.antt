@@ -14,7 +14,7 @@ use Rattle.rules.specs.Refusals.{impossibleArc}
 use Rattle.rules.specs.Commands.{says, lineOf}
 use Rattle.rules.specs.Editing.{editAnswer}
 use Rattle.rules.specs.Writing.{spelt}
-use Rattle.rules.specs.Bench.{benchTable}
+use Rattle.rules.specs.Bench.{benchCounts, benchTable}
 use Rattle.rules.specs.Obeys.{Possible}
 use Rattle.demands.specs.BenchFile.{whole}
 
@@ -41,9 +41,9 @@ pub record ArcLines : Type 0 where
   pub to-six : isPossible origin (to11 707107 6) ≡ true
   pub one-less-of-six : isPossible origin (to11 707106 6) ≡ false
   -- the bench file's arc from 4, 0: at most 4 and 0.001 apart, by no decimals and by four
-  pub furthest : editAnswer Rev2021 benchTable 15 13 (bytes "G03X8.001Y0A2") ≡ Done 15
-  pub too-far : editAnswer Rev2021 benchTable 15 13 (bytes "G03X8.001001Y0A2") ≡ Refused impossibleArc 13
-  pub four-decimals : editAnswer Rev2021 benchTable 15 13 (bytes "G03X8.001Y0A2.0000") ≡ Refused impossibleArc 13
+  pub furthest : editAnswer Rev2021 benchTable 15 13 (bytes "G03X8.001Y0A2") benchCounts ≡ Done 15
+  pub too-far : editAnswer Rev2021 benchTable 15 13 (bytes "G03X8.001001Y0A2") benchCounts ≡ Refused impossibleArc 13
+  pub four-decimals : editAnswer Rev2021 benchTable 15 13 (bytes "G03X8.001Y0A2.0000") benchCounts ≡ Refused impossibleArc 13
   -- the decimals are read and written as they are; a point without any is not
   pub zeros-read : lineOf Rev2021 (bytes "G02X1Y1A2.50") ≡ says (G02 (to11 2500000 2))
   pub zeros-written : spelt (G02 (to11 2500000 2)) ≡ bytes "G02X1Y1A2.50"

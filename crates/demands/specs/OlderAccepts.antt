@@ -9,11 +9,13 @@ use Rattle.lists.specs.Words.{bytes}
 use Rattle.rules.specs.declared.Revision.the-variants.{Rev2019, Rev2021}
 use Rattle.rules.specs.declared.Command.the-variants.{Declare}
 use Rattle.rules.specs.declared.Answer.the-variants.{Done}
+use Rattle.rules.specs.declared.Counts.{Counts}
 use Rattle.rules.specs.Refusals.{noSuchForm, outOfRange}
 use Rattle.rules.specs.Numbers.{maxLine, Decimal}
 use Rattle.rules.specs.Commands.{says, saysNo, lineOf}
 use Rattle.rules.specs.Reading.{Rows, readAnswer, readLeaves}
-use Rattle.rules.specs.Editing.{editAnswer, editLeaves}
+use Rattle.rules.specs.Counting.{readCounts}
+use Rattle.rules.specs.Editing.{editAnswer, editLeaves, editCounts}
 use Rattle.rules.specs.Spelling.{SpellsDeclared, Printable}
 use Rattle.rules.specs.Obeys.{ReadingOf}
 
@@ -32,8 +34,10 @@ pub record OlderAccepts : Type 0 where
   pub reading : (bs : List ℕ) (rs : Rows) → ReadingOf Rev2021 bs rs → ReadingOf Rev2019 bs rs
   pub read : (bs : List ℕ) (t : List ℤ) (n : ℕ) → readAnswer Rev2021 bs t ≡ Done n
       → (readAnswer Rev2019 bs t ≡ Done n) × (readLeaves Rev2019 bs t ≡ readLeaves Rev2021 bs t)
-  pub edit : (t : List ℤ) (n k : ℕ) (l : List ℕ) (m : ℕ) → editAnswer Rev2021 t n k l ≡ Done m
-      → (editAnswer Rev2019 t n k l ≡ Done m) × (editLeaves Rev2019 t n k l ≡ editLeaves Rev2021 t n k l)
+      × (readCounts Rev2019 bs t ≡ readCounts Rev2021 bs t)
+  pub edit : (t : List ℤ) (n k : ℕ) (l : List ℕ) (c : Counts) (m : ℕ) → editAnswer Rev2021 t n k l c ≡ Done m
+      → (editAnswer Rev2019 t n k l c ≡ Done m) × (editLeaves Rev2019 t n k l c ≡ editLeaves Rev2021 t n k l c)
+      × (editCounts Rev2019 t n k l c ≡ editCounts Rev2021 t n k l c)
   -- every other line has one answer by both; that one is 5 by 2021, and never 5 by 2019
   pub all-else : (l : List ℕ) → (OneDigit l → ⊥) → lineOf Rev2019 l ≡ lineOf Rev2021 l
   pub always-5 : (l : List ℕ) → OneDigit l → length l ≤ maxLine → Printable l → lineOf Rev2021 l ≡ saysNo noSuchForm

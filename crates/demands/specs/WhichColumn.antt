@@ -15,14 +15,14 @@ use Rattle.rules.specs.Lines.{CR}
 use Rattle.rules.specs.Commands.{saysNo, lineOf}
 use Rattle.rules.specs.Reading.{sayOut}
 use Rattle.rules.specs.Editing.{editAnswer}
-use Rattle.rules.specs.Bench.{benchTable}
+use Rattle.rules.specs.Bench.{benchCounts, benchTable}
 use Rattle.obeys.specs.Faults.{LineRefused}
 
 -- computed on the definitions
 pub record ColumnLines : Type 0 where
   -- document 02's own, alone and as an edit of the bench file
   pub own : lineOf Rev2021 (bytes "G03X6.0Y1600A1.0") ≡ saysNo (outOfRange 9)
-  pub own-edit : editAnswer Rev2021 benchTable 15 13 (bytes "G03X6.0Y1600A1.0") ≡ Refused (outOfRange 9) 13
+  pub own-edit : editAnswer Rev2021 benchTable 15 13 (bytes "G03X6.0Y1600A1.0") benchCounts ≡ Refused (outOfRange 9) 13
   -- the leftmost of those out of range
   pub first : lineOf Rev2021 (bytes "G03X1000Y1600A0") ≡ saysNo (outOfRange 5)
   pub third : lineOf Rev2021 (bytes "G03X6.0Y1.6A1000") ≡ saysNo (outOfRange 13)

@@ -1,14 +1,18 @@
--- The rows that an edit writes: those of the span, one after another, each put where it stood.
+-- The rows that an edit writes: those of the span, one after another, each put where a whole row stood.
 use mathlib.Core.Path.{_≡_, refl, sym, ap, _∙_, subst}
 use mathlib.Core.Bool.{Bool, true, false, cond}
 use mathlib.Core.List.{List, [], _∷_}
 use Prim.Native.Nat.{ℕ, _+_, _-_, _*_, _<_, _≤_}
 use native.Mathlib.Omega.{arith}
+use borrow.Author.Tests.{lt-ltb, le-ltb, ltb-false}
+use lib.Dec.{ltb}
 use lib.IntN.{ℤ}
-use lib.ListN.{length, drop, drop-of-length-le}
+use lib.ListN.{length, drop, length-drop, drop-of-length-le}
 use Rattle.lists.specs.Put.{putAt}
 use Rattle.lists.proofs.Put.{put-none}
+use Rattle.lists.proofs.Choice.{cond-all}
 use Rattle.runs.specs.Machine.{Row, Out, yields, stops, onOut, Verdict, accepted, refused, holds, bad, Span, widen, rerun}
+use Rattle.runs.proofs.Meeting.{rerun-counted}
 use Rattle.rules.specs.declared.Command.{Command}
 use Rattle.rules.specs.declared.State.{State}
 use Rattle.rules.specs.declared.Refusal.{Refusal}
@@ -17,7 +21,7 @@ use Rattle.rules.specs.declared.Looked.{Looked}
 use Rattle.rules.specs.declared.Looked.the-variants.{Holds, Bad}
 use Rattle.rules.specs.declared.Answer.{Answer}
 use Rattle.rules.specs.declared.Answer.the-variants.{Done, Refused}
-use Rattle.rules.specs.Refusals.{endsTooSoon}
+use Rattle.rules.specs.Refusals.{endsTooSoon, badTable}
 use Rattle.rules.specs.State.{step, taken, hasEnded, sameState}
 use Rattle.rules.specs.Rows.{rowWidth, tableNumbers, entryOf, entriesOf}
 use Rattle.rules.specs.Reading.{Rows}
@@ -29,7 +33,7 @@ use Rattle.table.specs.Table.{lookAt}
 use Rattle.table.proofs.Looks.{Found, look-found, entries-cons}
 use Rattle.put.specs.PutRow.{putRow}
 use Rattle.put.proofs.Puts.{put-size, put-rest, put-row, put-next}
-use Rattle.editor.specs.Parts.{Entries, rowsToMeet, editedTo, Leaves}
+use Rattle.editor.specs.Parts.{Entries, rowsToMeet, newRows, editedTo, LineFound, Met}
 
 pub widen-meeting : (r : Row Command State) (v : Verdict (Span Command State) Refusal) → meetingOf (widen r v) ≡ meetingOf v
 widen-meeting r (accepted s) = refl
@@ -130,36 +134,84 @@ module _ (t₀ w t : List ℤ) (n i : ℕ) (p : State) (room : rowWidth * n ≤ 
 
 -- ---- the edited row, and the rows after it
 
-module _ (t : List ℤ) (n k : ℕ) (c : Command) (q o : State) (room : rowWidth * n ≤ length t) (low : 1 ≤ k) (high : k ≤ n) (cok : CommandOk c) (qok : StateOk q) where
-  pub edited-met : sameState q o ≡ true → Leaves t k (editedTo (entriesOf n t) k c q o) (Done k) (putRow t (k - 1) c q)
-  edited-met y =
-      rw y
-      (record {
-        answer = refl;
-        leaves = put-row t (k - 1) c q cok qok (omega arith) ∙ ap (putAt t (rowWidth * (k - 1))) (sym (table-one (record { command = c; state = q })));
-      })
+no-length : (rs : Rows) → length rs ≤ 0 → rs ≡ []
+no-length [] h = refl
+no-length (r ∷ rs) h = absurd (omega arith)
 
-  -- a is what the walk over the rows after it told
-  module _ (y : sameState q o ≡ false) {a : Answer} (ae : a ≡ meetingOf (rerunFrom q (drop k (entriesOf n t)) k)) where
-    pub edited-refused : (e : Refusal) (i : ℕ) → a ≡ Refused e i → Leaves t k (editedTo (entriesOf n t) k c q o) (Refused e i) t
-    edited-refused e i h = rw y (by (rerunFrom q (drop k (entriesOf n t)) k) (sym h ∙ ae))
-      where
-        by : (v : Verdict (Span Command State) Refusal) → Refused e i ≡ meetingOf v → Leaves t k (widen (record { command = c; state = q }) v) (Refused e i) t
-        by (accepted x) g = absurd (let z : _≡_ {A = ℕ} 0 1 = cc in omega arith)
-        by (refused f j) g = record { answer = g; leaves = refl }
+module _ (t : List ℤ) (n k : ℕ) (o : State) (found : LineFound t n k) where
+  module _ (c : Command) (q : State) (cok : CommandOk c) (qok : StateOk q) where
+    pub asked-met : sameState q o ≡ true → Met t n k (editedTo (entriesOf n t) k c q o) k c q
+    asked-met y =
+        let s : Span Command State = record { meeting = k; rows = record { command = c; state = q } ∷ [] } in
+        record {
+          span = s;
+          verdict = rw y;
+          meets = refl;
+          rows = rw (le-ltb k k (omega arith));
+          counted = omega (arith, found .from);
+          later = omega arith;
+          upto = found .upto;
+          from = found .from;
+          few = found .few;
+          room = found .room;
+          command-ok = cok;
+          state-ok = qok;
+        }
 
-    -- first the edited row is written, then the rows after it up to the meeting line
-    pub edited-on : (m : ℕ) → a ≡ Done m → {t₁ t′ : List ℤ} → t₁ ≡ putRow t (k - 1) c q
-        → t′ ≡ putAt t₁ (rowWidth * k) (tableNumbers (rowsToMeet q (drop k (entriesOf n t₁)))) → Leaves t k (editedTo (entriesOf n t) k c q o) (Done m) t′
-    edited-on m h {t₁} {t′} e₁ e = rw y (by (rerunFrom q (drop k (entriesOf n t)) k) refl (sym h ∙ ae))
-      where
-        by : (v : Verdict (Span Command State) Refusal) → rerunFrom q (drop k (entriesOf n t)) k ≡ v → Done m ≡ meetingOf v
-            → Leaves t k (widen (record { command = c; state = q }) v) (Done m) t′
-        by (refused f j) ev g = absurd (let z : _≡_ {A = ℕ} 0 1 = cc in omega arith)
-        by (accepted x) ev g =
-            let l : k - 1 + 1 ≡ k = omega arith in
-            let stay : drop k (entriesOf n (putRow t (k - 1) c q)) ≡ drop k (entriesOf n t) = rw l at (put-rest t (k - 1) c q n (omega arith) room) in
-            record {
-              answer = g;
-              leaves = e ∙ rw (e₁, stay, ← rows-are q (drop k (entriesOf n t)) k x ev) (rw l at (put-next t (k - 1) c q cok qok (omega arith) (x .rows)));
-            }
+    -- a is what the walk over the rows after it told
+    module _ (y : sameState q o ≡ false) {a : Answer} (ae : a ≡ meetingOf (rerunFrom q (drop k (entriesOf n t)) k)) where
+      pub asked-refused : (e : Refusal) (i : ℕ) → a ≡ Refused e i → editedTo (entriesOf n t) k c q o ≡ refused e i
+      asked-refused e i h = rw y (by (rerunFrom q (drop k (entriesOf n t)) k) (sym h ∙ ae))
+        where
+          by : (v : Verdict (Span Command State) Refusal) → Refused e i ≡ meetingOf v → widen (record { command = c; state = q }) v ≡ refused e i
+          by (accepted x) g = absurd (let z : _≡_ {A = ℕ} 0 1 = cc in omega arith)
+          by (refused f j) g = cc
+
+      -- the rows after it, up to the meeting line
+      rows-after : (x : Span Command State) → rerunFrom q (drop k (entriesOf n t)) k ≡ accepted x → (m : ℕ) → x .meeting ≡ m
+          → x .rows ≡ cond (ltb k m) (rowsToMeet q (drop k (entriesOf n t))) []
+      rows-after x ev m g =
+          cond-all (λ (z : Rows). x .rows ≡ z) (ltb k m) (λ _. rows-are q (drop k (entriesOf n t)) k x ev)
+          (λ h. no-length (x .rows)
+          (omega (arith, g, ltb-false k m h, rerun-counted taken sameState hasEnded badTable endsTooSoon q (drop k (entriesOf n t)) k x ev .0)))
+
+      pub asked-on : (m : ℕ) → a ≡ Done m → Met t n k (editedTo (entriesOf n t) k c q o) m c q
+      asked-on m h = by (rerunFrom q (drop k (entriesOf n t)) k) refl (sym h ∙ ae)
+        where
+          by : (v : Verdict (Span Command State) Refusal) → rerunFrom q (drop k (entriesOf n t)) k ≡ v → Done m ≡ meetingOf v
+              → Met t n k (editedTo (entriesOf n t) k c q o) m c q
+          by (refused f j) ev g = absurd (let z : _≡_ {A = ℕ} 0 1 = cc in omega arith)
+          by (accepted x) ev g =
+              let d : x .meeting ≡ m = cc in
+              let s : Span Command State = record { meeting = x .meeting; rows = record { command = c; state = q } ∷ x .rows } in
+              let w = rerun-counted taken sameState hasEnded badTable endsTooSoon q (drop k (entriesOf n t)) k x ev in
+              record {
+                span = s;
+                verdict = rw (y, ev);
+                meets = d;
+                rows = ap (_∷_ (record { command = c; state = q })) (rows-after x ev m d);
+                counted = omega (arith, d, w .0, found .from);
+                later = omega (arith, d, w .0);
+                upto = omega (arith, d, w .0, w .1, length-drop k (entriesOf n t), entries-length n t, found .upto);
+                from = found .from;
+                few = found .few;
+                room = found .room;
+                command-ok = cok;
+                state-ok = qok;
+              }
+
+-- ---- what is written: the edited row, and then the rows after it up to the meeting line
+
+module _ (t : List ℤ) (n k m : ℕ) (c : Command) (q : State) (room : rowWidth * n ≤ length t) (low : 1 ≤ k) (high : k ≤ n) (cok : CommandOk c) (qok : StateOk q) where
+  pub change-one : m ≤ k → {t₁ : List ℤ} → t₁ ≡ putRow t (k - 1) c q
+      → t₁ ≡ putAt t (rowWidth * (k - 1)) (tableNumbers (newRows (entriesOf n t) k m c q))
+  change-one h e =
+      rw (le-ltb k m h) (e ∙ put-row t (k - 1) c q cok qok (omega arith) ∙ ap (putAt t (rowWidth * (k - 1))) (sym (table-one (record { command = c; state = q }))))
+
+  pub change-on : k < m → {t₁ t′ : List ℤ} → t₁ ≡ putRow t (k - 1) c q
+      → t′ ≡ putAt t₁ (rowWidth * k) (tableNumbers (rowsToMeet q (drop k (entriesOf n t₁))))
+      → t′ ≡ putAt t (rowWidth * (k - 1)) (tableNumbers (newRows (entriesOf n t) k m c q))
+  change-on h e₁ e =
+      let l : k - 1 + 1 ≡ k = omega arith in
+      let stay : drop k (entriesOf n (putRow t (k - 1) c q)) ≡ drop k (entriesOf n t) = rw l at (put-rest t (k - 1) c q n (omega arith) room) in
+      rw (lt-ltb k m h) (e ∙ rw (e₁, stay) (rw l at (put-next t (k - 1) c q cok qok (omega arith) (rowsToMeet q (drop k (entriesOf n t))))))

@@ -1,12 +1,11 @@
--- The tests of an edit, one after another as the code makes them: what it answers at each, and what it leaves.
-use mathlib.Core.Path.{_≡_, refl, sym, ap, _∙_, subst}
+-- The tests of an edit, one after another as the code makes them: what it answers at each.
+use mathlib.Core.Path.{_≡_, refl, sym, _∙_, subst}
 use mathlib.Core.Bool.{Bool, true, false, not}
 use mathlib.Core.List.{List}
-use Prim.Native.Nat.{ℕ, _-_, _*_, _≤_}
+use Prim.Native.Nat.{ℕ, _-_, _≤_}
 use borrow.Author.Tests.{eq-eqb, ne-eqb}
 use lib.Dec.{leb}
 use lib.IntN.{ℤ}
-use lib.ListN.{length}
 use Rattle.lists.proofs.Choice.{cond-all, failed, passed}
 use Rattle.runs.specs.Machine.{onOut, Verdict, refused, Span}
 use Rattle.rules.specs.declared.Command.{Command}
@@ -17,23 +16,20 @@ use Rattle.rules.specs.declared.Before.{Before}
 use Rattle.rules.specs.declared.Before.the-variants as B
 use Rattle.rules.specs.declared.Looked.{Looked}
 use Rattle.rules.specs.declared.Looked.the-variants as L
-use Rattle.rules.specs.declared.Answer.{Answer}
-use Rattle.rules.specs.declared.Answer.the-variants.{Refused}
 use Rattle.rules.specs.declared.Revision.{Revision}
 use Rattle.rules.specs.Refusals.{badTable, noSuchLine, holdsLineEnd}
 use Rattle.rules.specs.Commands.{lineOf}
-use Rattle.rules.specs.Rows.{rowWidth, entryOf, entriesOf, sizesFit}
-use Rattle.rules.specs.Answers.{said}
+use Rattle.rules.specs.Rows.{entryOf, entriesOf, sizesFit, Sizes}
 use Rattle.rules.specs.Reading.{sayOut}
-use Rattle.rules.specs.Editing.{isLine, noLineEnd, stateIn, beforeLine, onBefore, editFrom, editRows, editOf, editAnswer, editLeaves}
+use Rattle.rules.specs.Editing.{isLine, noLineEnd, stateIn, beforeLine, onBefore, editFrom, editRows, editOf}
 use Rattle.rules.specs.Ranges.{StateOk, CommandOk}
 use Rattle.laws.proofs.Keeps.{start-ok}
 use Rattle.laws.proofs.Sizes.{sizes-say, line-says}
 use Rattle.laws.proofs.InRange.{line-ok}
 use Rattle.table.specs.Table.{lookAt, rowAt}
 use Rattle.table.proofs.Looks.{look-found, entry-is, before-is}
-use Rattle.editor.specs.Parts.{Leaves}
-use Rattle.editor.specs.Edit.{EditIs}
+use Rattle.editor.specs.declared.Asked.{Asked}
+use Rattle.editor.specs.Parts.{LineFound, Asks}
 
 -- ---- a state before a line is in range
 
@@ -52,31 +48,24 @@ before-ok t k = cond-all BeforeOk (leb k 1) (λ _. start-ok) (λ _. looked-ok t 
 -- ---- the tests
 
 module _ (rev : Revision) (t : List ℤ) (n k : ℕ) (l : List ℕ) where
-  edit-is : {v : Verdict (Span Command State) Refusal} {r : Answer} {t′ : List ℤ} → editOf rev t n k l ≡ v → Leaves t k v r t′ → EditIs rev t n k l r t′
-  unfolding editAnswer editLeaves
-  edit-is e h = record { answer = rw e (ap said (h .answer)); leaves = rw e (h .leaves) }
-
-  edit-no : (e : Refusal) (i : ℕ) → editOf rev t n k l ≡ refused e i → EditIs rev t n k l (Refused e i) t
-  edit-no e i h = edit-is h (record { answer = refl; leaves = refl })
-
   module _ {fit : Bool} (fe : fit ≡ sizesFit t n) where
-    pub edit-sizes : not fit ≡ true → EditIs rev t n k l (Refused badTable 0) t
+    pub ask-sizes : not fit ≡ true → editOf rev t n k l ≡ refused badTable 0
     unfolding editOf
-    edit-sizes h = edit-no badTable 0 (rw (failed fe h))
+    ask-sizes h = rw (failed fe h)
 
     module _ (fits : not fit ≡ false) {is : Bool} (ie : is ≡ isLine n k) where
-      pub edit-line : not is ≡ true → EditIs rev t n k l (Refused noSuchLine 0) t
+      pub ask-line : not is ≡ true → editOf rev t n k l ≡ refused noSuchLine 0
       unfolding editOf
-      edit-line h = edit-no noSuchLine 0 (rw (passed fe fits, failed ie h))
+      ask-line h = rw (passed fe fits, failed ie h)
 
       module _ (lined : not is ≡ false) {clean : Bool} (ce : clean ≡ noLineEnd l) where
-        pub edit-end : not clean ≡ true → EditIs rev t n k l (Refused holdsLineEnd 0) t
+        pub ask-end : not clean ≡ true → editOf rev t n k l ≡ refused holdsLineEnd 0
         unfolding editOf
-        edit-end h = edit-no holdsLineEnd 0 (rw (passed fe fits, passed ie lined, failed ce h))
+        ask-end h = rw (passed fe fits, passed ie lined, failed ce h)
 
         module _ (cleaned : not clean ≡ false) {b : Before} (be : b ≡ beforeLine k (rowAt t (k - 1))) where
-          room : rowWidth * n ≤ length t
-          room = sizes-say t n (passed fe fits) .room
+          sizes : Sizes t n
+          sizes = sizes-say t n (passed fe fits)
 
           inside : (1 ≤ k) × (k ≤ n)
           inside = line-says n k (passed ie lined)
@@ -89,25 +78,26 @@ module _ (rev : Revision) (t : List ℤ) (n k : ℕ) (l : List ℕ) where
                 passed fe fits,
                 passed ie lined,
                 passed ce cleaned,
-                before-is n t k (inside .1) room,
-                entry-is n t k (inside .0) (inside .1) room,
+                before-is n t k (inside .1) (sizes .room),
+                entry-is n t k (inside .0) (inside .1) (sizes .room),
                 be,
               )
 
-          pub edit-before : b ≡ B.Bad → EditIs rev t n k l (Refused badTable (k - 1)) t
-          edit-before h = edit-no badTable (k - 1) (rows-tell ∙ rw h)
+          pub ask-before : b ≡ B.Bad → editOf rev t n k l ≡ refused badTable (k - 1)
+          ask-before h = rows-tell ∙ rw h
 
           module _ (p : State) (bp : b ≡ B.From p) {x : Looked} (xe : x ≡ lookAt t (k - 1)) where
-            pub edit-old : x ≡ L.Bad → EditIs rev t n k l (Refused badTable k) t
-            edit-old h = edit-no badTable k (rows-tell ∙ rw (bp, sym xe ∙ h))
+            pub ask-old : x ≡ L.Bad → editOf rev t n k l ≡ refused badTable k
+            ask-old h = rows-tell ∙ rw (bp, sym xe ∙ h)
 
             module _ (c : Command) (o : State) (xo : x ≡ L.Holds c o) {a : LineAnswer} (ae : a ≡ lineOf rev l) where
-              pub edit-text : (a .refusal .number ≡ 0 → ⊥) → EditIs rev t n k l (Refused (a .refusal) k) t
-              edit-text h = edit-no (a .refusal) k (rows-tell ∙ rw (bp, sym xe ∙ xo, ← ae, ne-eqb (a .refusal .number) 0 h))
+              pub ask-text : (a .refusal .number ≡ 0 → ⊥) → editOf rev t n k l ≡ refused (a .refusal) k
+              ask-text h = rows-tell ∙ rw (bp, sym xe ∙ xo, ← ae, ne-eqb (a .refusal .number) 0 h)
 
-              pub edit-may : (rowWidth * n ≤ length t) × (1 ≤ k) × (k ≤ n) × StateOk p × CommandOk (a .command)
-              edit-may = (room, inside .0, inside .1, subst BeforeOk (sym be ∙ bp) (before-ok t k), rw ae (line-ok rev l))
+              pub ask-may : LineFound t n k × StateOk p × CommandOk (a .command)
+              ask-may = (record { room = sizes .room; few = sizes .few; from = inside .0; upto = inside .1 }, subst BeforeOk (sym be ∙ bp) (before-ok t k), rw ae (line-ok rev l))
 
-              pub edit-done : a .refusal .number ≡ 0 → {r : Answer} {t′ : List ℤ}
-                  → Leaves t k (editFrom (entriesOf n t) k p o (a .command)) r t′ → EditIs rev t n k l r t′
-              edit-done h w = edit-is (rows-tell ∙ rw (bp, sym xe ∙ xo, ← ae, eq-eqb (a .refusal .number) 0 h)) w
+              pub ask-done : a .refusal .number ≡ 0 → (r : Asked) → Asks t n k (editFrom (entriesOf n t) k p o (a .command)) r → Asks t n k (editOf rev t n k l) r
+              ask-done h r w =
+                  subst (λ (v : Verdict (Span Command State) Refusal). Asks t n k v r)
+                  (sym (rows-tell ∙ rw (bp, sym xe ∙ xo, ← ae, eq-eqb (a .refusal .number) 0 h))) w

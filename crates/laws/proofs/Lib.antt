@@ -9,3 +9,6 @@ pub mod Entries
 pub mod Ways
 pub mod Declared
 pub mod Diameters
+pub mod EachTool
+pub mod HowMany
+pub mod OldRows

@@ -5,6 +5,7 @@ ghost use mathlib.Core.Path.{_≡_};
 ghost use Prim.Native.Nat.{_≤_};
 ghost use Rattle.moves.specs.Moves as Moves;
 use rules::Answer;
+use rules::Counts;
 use rules::DiameterAnswer;
 use rules::FILE_TOO_LONG;
 use rules::Hole;
@@ -128,12 +129,14 @@ fn print_count(count: usize) {
 }
 
 // The edit goes into a copy, so that both tables can be asked.
-fn try_edit(old: &[i32], n: usize, line: usize, text: &[u8], revision: Revision)
+fn try_edit(old: &[i32], n: usize, line: usize, text: &[u8], revision: Revision, counts: Counts)
     requires { ⌜ 1 ≤ line ⌝ }
 {
     let mut new = [0i32; TABLE_ROOM];
     put::copy(&mut new, 0, old);
-    match editor::edit(&mut new, n, line, text, revision) {
+    let edited = editor::edit(&mut new, n, line, text, revision, counts);
+    let answer = edited.answer;
+    match answer {
         Answer::Refused(refusal, at) => show::refused(refusal, at),
         Answer::Done(meeting) => {
             print_span(line, meeting);
@@ -177,12 +180,12 @@ fn line_number(digits: &[u8]) -> usize {
     line
 }
 
-fn answer(old: &[i32], n: usize, first: &[u8], revision: Revision) {
+fn answer(old: &[i32], n: usize, first: &[u8], revision: Revision, counts: Counts) {
     let tab = find_tab(first);
     if tab < first.len() {
         let line = line_number(&first[..tab]);
         if 0 < line {
-            try_edit(old, n, line, &first[tab + 1..], revision);
+            try_edit(old, n, line, &first[tab + 1..], revision, counts);
             return;
         }
     }
@@ -191,9 +194,11 @@ fn answer(old: &[i32], n: usize, first: &[u8], revision: Revision) {
 
 fn report(first: &[u8], file: &[u8], revision: Revision) {
     let mut old = [0i32; TABLE_ROOM];
-    match reader::read(file, revision, &mut old) {
+    let read = reader::read(file, revision, &mut old);
+    let told = read.answer;
+    match told {
         Answer::Refused(refusal, line) => show::refused(refusal, line),
-        Answer::Done(n) => answer(&old, n, first, revision),
+        Answer::Done(n) => answer(&old, n, first, revision, read.counts),
     }
 }
 

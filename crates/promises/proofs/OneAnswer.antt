@@ -1,7 +1,7 @@
 -- Any two answers allowed by a promise are equal, for each public function: its contract, cited as it stands in its source, says
 -- that the answer, or its number and values, and what is left, is what a definition says; and two things equal to a third are equal.
 use mathlib.Core.Path.{_≡_, refl, sym, _∙_}
-use Rattle.rules.proofs.Said.{said-one, hole-said-one, diameter-said-one}
+use Rattle.rules.proofs.Said.{said-one, counted-one, hole-said-one, diameter-said-one}
 use Rattle.points.proofs.Point.same.Kinds as point-same-kinds
 use Rattle.points.proofs.Point.same.Reads as point-same-reads
 use Rattle.points.proofs.distance.Kinds as distance-kinds
@@ -76,6 +76,16 @@ use Rattle.put.proofs.copy.Kinds as put-copy-kinds
 use Rattle.put.proofs.copy.Reads as put-copy-reads
 use Rattle.put.proofs.row.Kinds as put-row-kinds
 use Rattle.put.proofs.row.Reads as put-row-reads
+use Rattle.tally.proofs.none.Kinds as tally-none-kinds
+use Rattle.tally.proofs.none.Reads as tally-none-reads
+use Rattle.tally.proofs.with_rows.Kinds as tally-with-rows-kinds
+use Rattle.tally.proofs.with_rows.Reads as tally-with-rows-reads
+use Rattle.tally.proofs.without_rows.Kinds as tally-without-rows-kinds
+use Rattle.tally.proofs.without_rows.Reads as tally-without-rows-reads
+use Rattle.tally.proofs.hits.Kinds as tally-hits-kinds
+use Rattle.tally.proofs.hits.Reads as tally-hits-reads
+use Rattle.tally.proofs.routs.Kinds as tally-routs-kinds
+use Rattle.tally.proofs.routs.Reads as tally-routs-reads
 use Rattle.text.proofs.put_byte.Kinds as text-put-byte-kinds
 use Rattle.text.proofs.put_byte.Reads as text-put-byte-reads
 use Rattle.text.proofs.put_word.Kinds as text-put-word-kinds
@@ -108,6 +118,8 @@ use Rattle.query.proofs.hole.Kinds as query-hole-kinds
 use Rattle.query.proofs.hole.Reads as query-hole-reads
 use Rattle.query.proofs.diameter.Kinds as query-diameter-kinds
 use Rattle.query.proofs.diameter.Reads as query-diameter-reads
+use Rattle.editor.proofs.meeting.Kinds as editor-meeting-kinds
+use Rattle.editor.proofs.meeting.Reads as editor-meeting-reads
 use Rattle.editor.proofs.edit.Kinds as editor-edit-kinds
 use Rattle.editor.proofs.edit.Reads as editor-edit-reads
 use Rattle.writer.proofs.write.Kinds as writer-write-kinds
@@ -122,10 +134,16 @@ use Rattle.print.proofs.hole_line.Kinds as print-hole-line-kinds
 use Rattle.print.proofs.hole_line.Reads as print-hole-line-reads
 use Rattle.report.proofs.holes.Kinds as report-holes-kinds
 use Rattle.report.proofs.holes.Reads as report-holes-reads
+use Rattle.report.proofs.counts.Kinds as report-counts-kinds
+use Rattle.report.proofs.counts.Reads as report-counts-reads
 use Rattle.xnc.proofs.xnc_read.Kinds as xnc-read-kinds
 use Rattle.xnc.proofs.xnc_read.Reads as xnc-read-reads
 use Rattle.xnc.proofs.xnc_edit.Kinds as xnc-edit-kinds
 use Rattle.xnc.proofs.xnc_edit.Reads as xnc-edit-reads
+use Rattle.xnc.proofs.xnc_hits.Kinds as xnc-hits-kinds
+use Rattle.xnc.proofs.xnc_hits.Reads as xnc-hits-reads
+use Rattle.xnc.proofs.xnc_routs.Kinds as xnc-routs-kinds
+use Rattle.xnc.proofs.xnc_routs.Reads as xnc-routs-reads
 use Rattle.xnc.proofs.xnc_hole.Kinds as xnc-hole-kinds
 use Rattle.xnc.proofs.xnc_hole.Reads as xnc-hole-reads
 use Rattle.xnc.proofs.xnc_write.Kinds as xnc-write-kinds
@@ -262,6 +280,23 @@ put-copy κs a x y e f p q = (refl, same p q)
 pub put-row : OneOutcome 1 put-row-kinds.ps put-row-kinds.r put-row-reads.Post (λ κs e. e .0 .now)
 put-row κs a x y e f p q = (refl, same p q)
 
+-- ---- crate tally
+
+pub tally-none : OneAnswer 0 tally-none-kinds.ps tally-none-kinds.r tally-none-reads.Post
+tally-none κs a x y e f p q = same p q
+
+pub tally-with-rows : OneAnswer 1 tally-with-rows-kinds.ps tally-with-rows-kinds.r tally-with-rows-reads.Post
+tally-with-rows κs a x y e f p q = same p q
+
+pub tally-without-rows : OneAnswer 1 tally-without-rows-kinds.ps tally-without-rows-kinds.r tally-without-rows-reads.Post
+tally-without-rows κs a x y e f p q = same p q
+
+pub tally-hits : OneAnswer 0 tally-hits-kinds.ps tally-hits-kinds.r tally-hits-reads.Post
+tally-hits κs a x y e f p q = said-one (same p q)
+
+pub tally-routs : OneAnswer 0 tally-routs-kinds.ps tally-routs-kinds.r tally-routs-reads.Post
+tally-routs κs a x y e f p q = said-one (same p q)
+
 -- ---- crate text: the place after, and the bytes; so also of millionths and spell
 
 pub text-put-byte : OneOutcome 1 text-put-byte-kinds.ps text-put-byte-kinds.r text-put-byte-reads.Post (λ κs e. e .0 .now)
@@ -310,7 +345,7 @@ spell-put-line κs a x y e f p q = (same (p .end) (q .end), same (p .bytes) (q .
 -- ---- crate reader
 
 pub reader-read : OneOutcome 2 reader-read-kinds.ps reader-read-kinds.r reader-read-reads.Post (λ κs e. e .1 .1 .0 .now)
-reader-read κs a x y e f p q = (said-one (same (p .0) (q .0)), same (p .1) (q .1))
+reader-read κs a x y e f p q = (counted-one (same (p .answer) (q .answer)) (same (p .counts) (q .counts)), same (p .leaves) (q .leaves))
 
 -- ---- crate query
 
@@ -322,8 +357,11 @@ query-diameter κs a x y e f p q = diameter-said-one (same p q)
 
 -- ---- crate editor
 
+pub editor-meeting : OneAnswer 2 editor-meeting-kinds.ps editor-meeting-kinds.r editor-meeting-reads.Post
+editor-meeting κs a x y e f p q = said-one (same p q)
+
 pub editor-edit : OneOutcome 2 editor-edit-kinds.ps editor-edit-kinds.r editor-edit-reads.Post (λ κs e. e .0 .now)
-editor-edit κs a x y e f p q = (said-one (same (p .answer) (q .answer)), same (p .leaves) (q .leaves))
+editor-edit κs a x y e f p q = (counted-one (same (p .answer) (q .answer)) (same (p .counts) (q .counts)), same (p .leaves) (q .leaves))
 
 -- ---- crate writer
 
@@ -352,13 +390,31 @@ report-holes κs a x y e f p q = (same (p .count) (q .count), same (p .bytes) (q
 pub report-holes-table : OneOutcome 3 report-holes-kinds.ps report-holes-kinds.r report-holes-reads.Post (λ κs e. e .1 .1 .0 .now)
 report-holes-table κs a x y e f p q = (same (p .count) (q .count), same (p .numbers) (q .numbers))
 
--- ---- crate xnc, the door
+pub report-counts : OneOutcome 3 report-counts-kinds.ps report-counts-kinds.r report-counts-reads.Post (λ κs e. e .1 .1 .1 .0 .now)
+report-counts κs a x y e f p q = (same (p .count) (q .count), same (p .bytes) (q .bytes))
 
-pub xnc-read : OneOutcome 2 xnc-read-kinds.ps xnc-read-kinds.r xnc-read-reads.Post (λ κs e. e .1 .1 .0 .now)
-xnc-read κs a x y e f p q = (same (p .0) (q .0), same (p .1) (q .1))
+pub report-counts-table : OneOutcome 3 report-counts-kinds.ps report-counts-kinds.r report-counts-reads.Post (λ κs e. e .1 .1 .0 .now)
+report-counts-table κs a x y e f p q = (same (p .count) (q .count), same (p .numbers) (q .numbers))
 
-pub xnc-edit : OneOutcome 2 xnc-edit-kinds.ps xnc-edit-kinds.r xnc-edit-reads.Post (λ κs e. e .0 .now)
-xnc-edit κs a x y e f p q = (same (p .0) (q .0), same (p .1) (q .1))
+-- ---- crate xnc, the door: the table, and the counts
+
+pub xnc-read : OneOutcome 3 xnc-read-kinds.ps xnc-read-kinds.r xnc-read-reads.Post (λ κs e. e .1 .1 .0 .now)
+xnc-read κs a x y e f p q = (same (p .answer) (q .answer), same (p .table) (q .table))
+
+pub xnc-read-counts : OneOutcome 3 xnc-read-kinds.ps xnc-read-kinds.r xnc-read-reads.Post (λ κs e. e .1 .1 .1 .0 .now)
+xnc-read-counts κs a x y e f p q = (same (p .answer) (q .answer), same (p .counts) (q .counts))
+
+pub xnc-edit : OneOutcome 3 xnc-edit-kinds.ps xnc-edit-kinds.r xnc-edit-reads.Post (λ κs e. e .0 .now)
+xnc-edit κs a x y e f p q = (same (p .answer) (q .answer), same (p .table) (q .table))
+
+pub xnc-edit-counts : OneOutcome 3 xnc-edit-kinds.ps xnc-edit-kinds.r xnc-edit-reads.Post (λ κs e. e .1 .1 .1 .1 .1 .0 .now)
+xnc-edit-counts κs a x y e f p q = (same (p .answer) (q .answer), same (p .counts) (q .counts))
+
+pub xnc-hits : OneAnswer 1 xnc-hits-kinds.ps xnc-hits-kinds.r xnc-hits-reads.Post
+xnc-hits κs a x y e f p q = same p q
+
+pub xnc-routs : OneAnswer 1 xnc-routs-kinds.ps xnc-routs-kinds.r xnc-routs-reads.Post
+xnc-routs κs a x y e f p q = same p q
 
 pub xnc-hole : OneOutcome 2 xnc-hole-kinds.ps xnc-hole-kinds.r xnc-hole-reads.Post (λ κs e. e .1 .1 .1 .0 .now)
 xnc-hole κs a x y e f p q = (same (p .0) (q .0), same (p .1) (q .1))

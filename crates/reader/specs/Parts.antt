@@ -8,12 +8,14 @@ use Rattle.lists.specs.Put.{putAt}
 use Rattle.runs.specs.Machine.{Verdict, accepted, refused}
 use Rattle.rules.specs.declared.Refusal.{Refusal}
 use Rattle.rules.specs.declared.Answer.{Answer}
+use Rattle.rules.specs.declared.Counted.{Counted}
 use Rattle.rules.specs.declared.Answer.the-variants.{Done, Refused}
 use Rattle.rules.specs.declared.Revision.{Revision}
 use Rattle.rules.specs.Numbers.{maxLines}
 use Rattle.rules.specs.Lines.{linesOf}
 use Rattle.rules.specs.Rows.{rowWidth, tableNumbers}
 use Rattle.rules.specs.Reading.{Rows, runOf}
+use Rattle.rules.specs.Counting.{noCounts}
 
 -- the answer, where n lines came before
 abbrev pub toldFrom : ℕ → Verdict Rows Refusal → Answer
@@ -33,3 +35,7 @@ Block rev s t (Refused e i) t′ = Unit {0}
 pub record LinesRead (rev : Revision) (s : List ℕ) (t : List ℤ) (r : Answer) (t′ : List ℤ) : Type 0 where
   pub answer : r ≡ toldFrom 0 (runOf rev (linesOf s))
   pub block : Block rev s t r t′
+
+-- a refused file
+abbrev pub notRead : Refusal → ℕ → Counted
+notRead e i = record { answer = Refused e i; counts = noCounts }

@@ -25,7 +25,8 @@ use Rattle.rules.specs.State.{metricUnit, start}
 use Rattle.rules.specs.Holes.{holeOf}
 use Rattle.rules.specs.Reading.{Rows, fileOf}
 use Rattle.rules.specs.Asking.{diameterIn}
-use Rattle.rules.specs.Printing.{decimal, printedLine, unitLine, toolLine, toolLines, holeFields, holeLine, holeLines, holeCount, holesText, refusedText, printed}
+use Rattle.rules.specs.Counting.{hits, routs, howMany}
+use Rattle.rules.specs.Printing.{decimal, printedLine, unitLine, toolLine, toolLines, holeFields, holeLine, holeLines, holeCount, holesText, refusedText, printed, countsLine, countsLines, countsPrinted}
 use Rattle.rules.specs.Ranges.{PointOk, StateOk, CommandOk}
 use Rattle.laws.proofs.Keeps.{start-ok}
 use Rattle.laws.proofs.Ways.{hole-cases}
@@ -65,6 +66,22 @@ count-short c = numbers-short (bytes "holes") (c ∷ [])
 refused-short : (e : Refusal) (i : ℕ) → length (refusedText e i) ≤ 71
 unfolding refusedText decimals
 refused-short e i = numbers-short (bytes "refused") (e .number ∷ i ∷ e .column ∷ [])
+
+-- a tool, its diameter and its counts
+counts-line-short : (t : ℕ) (a : DiameterAnswer) (h r : ℕ) → length (countsLine t a h r) ≤ 84
+unfolding decimals
+counts-line-short t (D.Is d) h r = omega (arith, decimal-range t .1, numbers-short (decimal t) (d ∷ h ∷ r ∷ []))
+counts-line-short t (D.Refused e i) h r = omega arith
+
+counts-short : (k : ℕ) (rs : Rows) → length (countsLines k rs) ≤ 84 * k
+unfolding countsLines
+counts-short zero rs = omega arith
+counts-short (suc k) rs =
+    let t = maxTool - k in
+    let a = diameterIn t (allHold rs) 0 in
+    let h = howMany hits rs t in
+    let r = howMany routs rs t in
+    omega (arith, length-append (countsLine t a h r) (countsLines k rs), counts-line-short t a h r, counts-short k rs)
 
 -- ---- lines of holes
 
@@ -122,10 +139,19 @@ text-short rs ok few =
       count-short (holeCount start rs),
     )
 
-pub printed-short : (rev : Revision) (bs : List ℕ) → length (printed rev bs) ≤ textRoom
-unfolding printed
-printed-short rev bs = by (fileOf rev bs) refl
-  where
-    by : (v : Verdict Rows Refusal) → fileOf rev bs ≡ v → length (onVerdict v refusedText holesText) ≤ textRoom
-    by (accepted rs) e = text-short rs (file-ok rev bs rs e) (file-few rev bs rs e)
-    by (refused e i) _ = omega (arith, refused-short e i)
+module _ (rev : Revision) (bs : List ℕ) where
+  pub printed-short : length (printed rev bs) ≤ textRoom
+  unfolding printed
+  printed-short = by (fileOf rev bs) refl
+    where
+      by : (v : Verdict Rows Refusal) → fileOf rev bs ≡ v → length (onVerdict v refusedText holesText) ≤ textRoom
+      by (accepted rs) e = text-short rs (file-ok rev bs rs e) (file-few rev bs rs e)
+      by (refused e i) _ = omega (arith, refused-short e i)
+
+  pub counts-printed-short : length (countsPrinted rev bs) ≤ textRoom
+  unfolding countsPrinted
+  counts-printed-short = by (fileOf rev bs)
+    where
+      by : (v : Verdict Rows Refusal) → length (onVerdict v refusedText (countsLines maxTool)) ≤ textRoom
+      by (accepted rs) = omega (arith, counts-short maxTool rs)
+      by (refused e i) = omega (arith, refused-short e i)

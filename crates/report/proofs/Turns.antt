@@ -4,26 +4,25 @@ use mathlib.Core.List.{List, [], _++_}
 use Prim.Native.Nat.{ℕ, suc, _+_, _-_, _<_, _≤_}
 use native.Mathlib.Omega.{arith}
 use lib.IntN.{ℤ}
-use Rattle.tools.specs.declared.Tools.{Tools}
 use Rattle.rules.specs.Numbers.{maxTool}
 use Rattle.rules.specs.Asking.{holeAnswer}
 use Rattle.rules.specs.Printing.{holeLine, oneHole}
 use Rattle.text.proofs.Wrote.{Rest}
-use Rattle.report.specs.Parts.{lineOfTool, linesOfTools, linesText, holesIn}
+use Rattle.report.specs.Parts.{linesOfTools, linesText, holesIn}
 
 -- ---- tools
 
-module _ (t : List ℤ) (n : ℕ) (d : Tools) where
-  pub tools-next : (tool : ℕ) → 1 ≤ tool → tool ≤ maxTool → linesOfTools t n d (maxTool + 1 - tool) ≡ lineOfTool t n d tool ++ linesOfTools t n d (maxTool + 1 - (tool + 1))
+module _ (line : ℕ → List ℕ) where
+  pub tools-next : (tool : ℕ) → 1 ≤ tool → tool ≤ maxTool → linesOfTools line (maxTool + 1 - tool) ≡ line tool ++ linesOfTools line (maxTool + 1 - (tool + 1))
   unfolding linesOfTools
   tools-next tool h k =
       let e : maxTool + 1 - tool ≡ suc (maxTool + 1 - (tool + 1)) = omega arith in
       let f : maxTool - (maxTool + 1 - (tool + 1)) ≡ tool = omega arith in
-      ap (linesOfTools t n d) e ∙ ap (λ (z : ℕ). lineOfTool t n d z ++ linesOfTools t n d (maxTool + 1 - (tool + 1))) f
+      ap (linesOfTools line) e ∙ ap (λ (z : ℕ). line z ++ linesOfTools line (maxTool + 1 - (tool + 1))) f
 
-  pub tools-over : (tool : ℕ) → maxTool < tool → linesOfTools t n d (maxTool + 1 - tool) ≡ []
+  pub tools-over : (tool : ℕ) → maxTool < tool → linesOfTools line (maxTool + 1 - tool) ≡ []
   unfolding linesOfTools
-  tools-over tool h = let e : maxTool + 1 - tool ≡ 0 = omega arith in ap (linesOfTools t n d) e
+  tools-over tool h = let e : maxTool + 1 - tool ≡ 0 = omega arith in ap (linesOfTools line) e
 
 -- ---- lines
 

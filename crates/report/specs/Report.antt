@@ -1,4 +1,4 @@
--- What the print-out of a file leaves: its bytes in the lent text, and the table that reading fills.
+-- What a print-out of a file leaves: its bytes in the lent text, and the table that reading fills.
 use mathlib.Core.Path.{_≡_}
 use mathlib.Core.Bool.{Bool, _&&_, cond}
 use mathlib.Core.List.{List}
@@ -10,7 +10,6 @@ use Rattle.lists.specs.Put.{putAt}
 use Rattle.rules.specs.declared.Revision.{Revision}
 use Rattle.rules.specs.Rows.{tableRoom}
 use Rattle.rules.specs.Reading.{readLeaves}
-use Rattle.rules.specs.Printing.{printed}
 
 -- bytes for every print-out
 abbrev pub textRoom : ℕ
@@ -20,8 +19,9 @@ textRoom = 98304
 unfoldable pub blocksFit : List ℤ → List ℕ → Bool
 blocksFit table text = leb tableRoom (length table) && leb textRoom (length text)
 
-pub record Reports (rev : Revision) (file : List ℕ) (table : List ℤ) (text : List ℕ) (r : ℕ) (table′ : List ℤ) (text′ : List ℕ) : Type 0 where
-  pub bytes : text′ ≡ cond (blocksFit table text) (putAt text 0 (printed rev file)) text
-  pub count : r ≡ cond (blocksFit table text) (length (printed rev file)) 0
+-- x is the print-out
+pub record Reports (x : List ℕ) (rev : Revision) (file : List ℕ) (table : List ℤ) (text : List ℕ) (r : ℕ) (table′ : List ℤ) (text′ : List ℕ) : Type 0 where
+  pub bytes : text′ ≡ cond (blocksFit table text) (putAt text 0 x) text
+  pub count : r ≡ cond (blocksFit table text) (length x) 0
   pub numbers : table′ ≡ cond (blocksFit table text) (readLeaves rev file table) table
   pub inside : r ≤ length text

@@ -3,12 +3,13 @@ ghost use mathlib.Core.Path.{_≡_};
 ghost use Prim.Native.Nat.{_≤_};
 ghost use Rattle.rules.specs.Numbers.{maxTool};
 ghost use Rattle.rules.specs.Asking.{holeAnswer};
-ghost use Rattle.rules.specs.Printing.{holeLine, oneHole};
+ghost use Rattle.rules.specs.Printing.{toolLine, holeLine, oneHole};
 ghost use Rattle.text.specs.Wrote.{Wrote};
-ghost use Rattle.report.specs.Parts.{unitText, lineOfTool, linesOfTools, linesText, holesIn};
+ghost use Rattle.report.specs.Parts.{unitText, diameterOf, lineOfTool, linesOfTools, linesText, holesIn};
 use rules::DiameterAnswer;
 use rules::HoleAnswer;
 use rules::MAX_TOOL;
+use rules::NOT_DECLARED;
 use rules::unit;
 use tools::Tools;
 
@@ -28,21 +29,21 @@ pub(crate) fn put_unit(text: &mut [u8], at: usize, unit: u32) -> usize
     text::put_word(text, at, b"unit\tINCH\n")
 }
 
-// A tool's line. One that is not declared has none, and its diameter isn't looked for.
-fn put_tool(
-    text: &mut [u8],
-    at: usize,
-    table: &[i32],
-    n: usize,
-    declared: Tools,
-    tool: u32,
-) -> usize
-    ensures { λ r. ⌜ Wrote (now (text .entry)) at (lineOfTool (now (table .entry)) n declared tool) (now (text .exit)) r ⌝ }
+// A tool's diameter. One that is not declared has none, and it isn't looked for.
+pub(crate) fn diameter_of(table: &[i32], n: usize, declared: Tools, tool: u32) -> DiameterAnswer
+    ensures { λ r. ⌜ r ≡ diameterOf (now (table .entry)) n declared tool ⌝ }
 {
     if !declared.has(tool) {
-        return at;
+        return DiameterAnswer::Refused(NOT_DECLARED, 0);
     }
-    match query::diameter(table, n, tool) {
+    query::diameter(table, n, tool)
+}
+
+// A tool's line, none where it has no diameter.
+fn put_tool(text: &mut [u8], at: usize, tool: u32, answer: DiameterAnswer) -> usize
+    ensures { λ r. ⌜ Wrote (now (text .entry)) at (toolLine tool answer) (now (text .exit)) r ⌝ }
+{
+    match answer {
         DiameterAnswer::Is(diameter) => {
             let fields = [tool as u64, diameter as u64];
             print::put_numbers_line(text, at, b"tool", &fields)
@@ -59,12 +60,13 @@ pub(crate) fn put_tools(
     n: usize,
     declared: Tools,
 ) -> usize
-    ensures { λ r. ⌜ Wrote (now (text .entry)) at (linesOfTools (now (table .entry)) n declared maxTool) (now (text .exit)) r ⌝ }
+    ensures { λ r. ⌜ Wrote (now (text .entry)) at (linesOfTools (lineOfTool (now (table .entry)) n declared) maxTool) (now (text .exit)) r ⌝ }
 {
     let mut end = at;
     let mut tool = 1;
     while tool <= MAX_TOOL {
-        end = put_tool(text, end, table, n, declared, tool);
+        let answer = diameter_of(table, n, declared, tool);
+        end = put_tool(text, end, tool, answer);
         tool += 1;
     }
     end

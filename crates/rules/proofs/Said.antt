@@ -5,6 +5,7 @@ use Rattle.rules.specs.declared.Hole.{Hole}
 use Rattle.rules.specs.declared.Refusal.{Refusal}
 use Rattle.rules.specs.declared.Answer.{Answer}
 use Rattle.rules.specs.declared.Answer.the-variants as A
+use Rattle.rules.specs.declared.Counted.{Counted}
 use Rattle.rules.specs.declared.HoleAnswer.{HoleAnswer}
 use Rattle.rules.specs.declared.HoleAnswer.the-variants as H
 use Rattle.rules.specs.declared.DiameterAnswer.{DiameterAnswer}
@@ -67,3 +68,9 @@ diameter-by (D.Refused e i) (D.Refused f j) h = cc (refusal-by e f i j h)
 
 pub diameter-said-one : {a b : DiameterAnswer} → diameterSaid a ≡ diameterSaid b → a ≡ b
 diameter-said-one {a} {b} h = diameter-by a b h
+
+counted-by : (a b : Counted) → a .answer ≡ b .answer → a .counts ≡ b .counts → a ≡ b
+counted-by a b e f = λ i. record { answer = e i; counts = f i }
+
+pub counted-one : {a b : Counted} → said (a .answer) ≡ said (b .answer) → a .counts ≡ b .counts → a ≡ b
+counted-one {a} {b} e f = counted-by a b (said-one e) f

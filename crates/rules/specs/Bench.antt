@@ -7,9 +7,11 @@ use Rattle.runs.specs.Machine.{onVerdict}
 use Rattle.rules.specs.declared.Revision.the-variants.{Rev2021}
 use Rattle.rules.specs.declared.Answer.{Answer}
 use Rattle.rules.specs.declared.Answer.the-variants.{Done, Refused}
+use Rattle.rules.specs.declared.Counts.{Counts}
 use Rattle.rules.specs.Refusals.{refusal}
 use Rattle.rules.specs.Rows.{rowWidth}
 use Rattle.rules.specs.Reading.{Rows, fileOf, readLeaves}
+use Rattle.rules.specs.Counting.{readCounts}
 use Rattle.rules.specs.Editing.{editAnswer}
 
 abbrev pub benchFile : List ℕ
@@ -37,6 +39,10 @@ benchTable = readLeaves Rev2021 benchFile (zeros (rowWidth * 15))
 -- its rows
 unfoldable pub benchRows : Rows
 benchRows = onVerdict (fileOf Rev2021 benchFile) (λ e i. []) (λ rs. rs)
+
+-- its counts, of tools 1 to 99: one hit of tool 1, two routs of tool 7
+unfoldable pub benchCounts : Counts
+benchCounts = readCounts Rev2021 benchFile (zeros (rowWidth * 15))
 
 -- an edit of the bench file: line, new text, answer
 pub record Case : Type 0 where
@@ -71,4 +77,4 @@ expected (c ∷ cs) = c .answer ∷ expected cs
 
 unfoldable pub answered : List Case → List Answer
 answered [] = []
-answered (c ∷ cs) = editAnswer Rev2021 benchTable 15 (c .line) (c .text) ∷ answered cs
+answered (c ∷ cs) = editAnswer Rev2021 benchTable 15 (c .line) (c .text) benchCounts ∷ answered cs

@@ -9,6 +9,7 @@ pub mod Ranges
 pub mod Holes
 pub mod Answers
 pub mod Reading
+pub mod Counting
 pub mod Editing
 pub mod Asking
 pub mod Writing

@@ -21,6 +21,7 @@ use Rattle.rules.specs.Kinds as Kinds
 use Rattle.rules.specs.State.{metricUnit, start}
 use Rattle.rules.specs.Holes.{holeOf}
 use Rattle.rules.specs.Reading.{Rows, fileOf}
+use Rattle.rules.specs.Counting.{hits, routs, howMany}
 use Rattle.rules.specs.Asking.{diameterIn}
 use Rattle.rules.specs.Writing.{lastDigits}
 
@@ -96,3 +97,18 @@ refusedText e i = printedLine (bytes "refused") (decimal (e .number) ∷ decimal
 
 unfoldable pub printed : Revision → List ℕ → List ℕ
 printed rev bs = onVerdict (fileOf rev bs) refusedText holesText
+
+-- ---- the program `counts` (document 02, #103): each tool declared, by number, with its diameter, its hits and its routs
+
+abbrev pub countsLine : ℕ → DiameterAnswer → ℕ → ℕ → List ℕ
+countsLine t (D.Is d) h r = printedLine (decimal t) (decimal d ∷ decimal h ∷ decimal r ∷ [])
+countsLine t (D.Refused e i) h r = []
+
+-- the k last of all
+unfoldable pub countsLines : ℕ → Rows → List ℕ
+countsLines zero rs = []
+countsLines (suc k) rs =
+    countsLine (maxTool - k) (diameterIn (maxTool - k) (allHold rs) 0) (howMany hits rs (maxTool - k)) (howMany routs rs (maxTool - k)) ++ countsLines k rs
+
+unfoldable pub countsPrinted : Revision → List ℕ → List ℕ
+countsPrinted rev bs = onVerdict (fileOf rev bs) refusedText (countsLines maxTool)

@@ -24,6 +24,10 @@ pub const MAX_NUMBER: u32 = 999999999;
 pub const MAX_PLACES: u32 = 6;
 /// The largest tool number.
 pub const MAX_TOOL: u32 = 99;
+/// How many tools there are: a number for each stands at the tool's number less one.
+pub const TOOLS: usize = 99;
+/// The largest count that an edit takes in.
+pub const MAX_COUNT: u32 = 1000;
 /// Lent numbers of a row.
 pub const ROW_WIDTH: usize = 16;
 /// Lent numbers of the longest table.
@@ -206,10 +210,39 @@ pub struct Hole {
     pub radius: u32,
 }
 
-/// Reading, editing and writing: the count (lines, the meeting line, bytes), or the refusal and its line.
+/// Reading, editing, writing and how often a tool is used: the count (lines, the meeting line, bytes, holes), or the refusal and
+/// its line.
 pub enum Answer {
     Done(usize),
     Refused(Refusal, usize),
+}
+
+/// A way of making holes: the first and the last of its kinds.
+pub struct Way {
+    pub first: u32,
+    pub last: u32,
+}
+
+pub const HITS: Way = Way {
+    first: kind::HIT,
+    last: kind::HIT,
+};
+
+pub const ROUTS: Way = Way {
+    first: kind::G01,
+    last: kind::G03,
+};
+
+/// How many hits and how many routs each tool makes, tool 1 first.
+pub struct Counts {
+    pub hits: [u32; TOOLS],
+    pub routs: [u32; TOOLS],
+}
+
+/// What reading or editing answers, and the counts that go with the table afterwards.
+pub struct Counted {
+    pub answer: Answer,
+    pub counts: Counts,
 }
 
 /// The question for a line's hole.

@@ -8,3 +8,4 @@ pub mod Meeting
 pub mod Edit
 pub mod Follow
 pub mod Hold
+pub mod Whole

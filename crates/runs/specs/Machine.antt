@@ -39,6 +39,12 @@ unfoldable pub allHold : {C S : Type 0} → List (Row C S) → List (Entry C S)
 allHold [] = []
 allHold (r ∷ rs) = holds r ∷ allHold rs
 
+-- the rows among those found that are whole
+unfoldable pub wholeRows : {C S : Type 0} → List (Entry C S) → List (Row C S)
+wholeRows [] = []
+wholeRows (holds r ∷ es) = r ∷ wholeRows es
+wholeRows (bad ∷ es) = wholeRows es
+
 -- the rows that an edit makes anew, and the line at which they end
 pub record Span (C S : Type 0) : Type 0 where
   pub meeting : ℕ

@@ -11,10 +11,11 @@ use Rattle.rules.specs.declared.Refusal.{Refusal}
 use Rattle.rules.specs.declared.HoleAnswer.{HoleAnswer}
 use Rattle.rules.specs.declared.HoleAnswer.the-variants as H
 use Rattle.rules.specs.declared.Revision.{Revision}
+use Rattle.rules.specs.declared.Counts.{Counts}
 use Rattle.rules.specs.Answers.{Said, refused, said, holeSaid}
-use Rattle.rules.specs.Refusals.{noRoom}
+use Rattle.rules.specs.Refusals.{noRoom, noSuchTool}
 use Rattle.rules.specs.Reading.{readAnswer}
-use Rattle.rules.specs.Editing.{editAnswer}
+use Rattle.rules.specs.Editing.{meetingAnswer, editAnswer}
 use Rattle.rules.specs.Asking.{holeAnswer}
 use Rattle.rules.specs.Writing.{writeAnswer}
 use Rattle.rules.proofs.Said.{hole-said-one}
@@ -27,8 +28,11 @@ narrow-of h e w = rw e (record { number = omega (arith, w .number); column = ome
 pub read-small : (rev : Revision) (file : List ℕ) (table : List ℤ) {s : Said} → s ≡ said (readAnswer rev file table) → Narrow s
 read-small rev file table h = narrow-of (omega arith) h (Answers.read-small rev file table)
 
-pub edit-small : (rev : Revision) (table : List ℤ) (n line : ℕ) (text : List ℕ) {s : Said} → s ≡ said (editAnswer rev table n line text) → Narrow s
-edit-small rev table n line text h = narrow-of (omega arith) h (Answers.edit-small rev table n line text)
+pub meeting-small : (rev : Revision) (table : List ℤ) (n line : ℕ) (text : List ℕ) {s : Said} → s ≡ said (meetingAnswer rev table n line text) → Narrow s
+meeting-small rev table n line text h = narrow-of (omega arith) h (Answers.meeting-small rev table n line text)
+
+pub edit-small : (rev : Revision) (table : List ℤ) (n line : ℕ) (text : List ℕ) (c : Counts) {s : Said} → s ≡ said (editAnswer rev table n line text c) → Narrow s
+edit-small rev table n line text c h = narrow-of (omega arith) h (Answers.edit-small rev table n line text c)
 
 pub write-small : (table : List ℤ) (n : ℕ) (text : List ℕ) {s : Said} → s ≡ said (writeAnswer table n text) → Narrow s
 write-small table n text h = narrow-of (omega arith) h (Answers.write-small table n text)
@@ -43,3 +47,6 @@ refusal-small e i w h = subst (λ (x : Answer). Narrow (said x)) w h
 
 pub no-room-small : Narrow (refused noRoom 0)
 no-room-small = record { number = omega arith; column = omega arith; value = omega arith }
+
+pub no-tool-small : Narrow (refused noSuchTool 0)
+no-tool-small = record { number = omega arith; column = omega arith; value = omega arith }

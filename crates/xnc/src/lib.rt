@@ -1,21 +1,26 @@
 // The door for C and Rust: numbers and slices only. An answer is its number in document 01 times 2^48, plus its column times 2^32, plus the
 // line of the refusal or, where the number is 0, the count.
 ghost use mathlib.Core.Path.{_≡_};
-ghost use Prim.Native.Nat.{_≤_};
-ghost use lib.ListN.{length};
+ghost use Prim.Native.Nat.{_+_, _≤_};
+ghost use lib.ListN.{length, take, drop};
 ghost use Rattle.lists.specs.Put.{putAt};
+ghost use Rattle.rules.specs.Numbers.{maxTool};
 ghost use Rattle.rules.specs.Answers.{refused, said, holeNumbers};
-ghost use Rattle.rules.specs.Reading.{readAnswer, readLeaves};
-ghost use Rattle.rules.specs.Editing.{editAnswer, editLeaves};
+ghost use Rattle.rules.specs.Counting.{countOf, hitsAnswer, routsAnswer};
 ghost use Rattle.rules.specs.Writing.{writeAnswer, writeLeaves};
 ghost use Rattle.rules.specs.Asking.{holeAnswer};
 ghost use Rattle.xnc.specs.Door.{holeWidth, revisionOf, Narrow, packed, packedRefusal, HoleOk, holePacked, holeLeaves};
+ghost use Rattle.xnc.specs.Counts.{countsWidth, countsNumbers, countsIn, noBlock, lastBlock, roomFor, ReadDoor, EditDoor};
 use rules::Answer;
+use rules::Counts;
 use rules::Hole;
 use rules::HoleAnswer;
+use rules::MAX_TOOL;
 use rules::NO_ROOM;
+use rules::NO_SUCH_TOOL;
 use rules::Refusal;
 use rules::Revision;
+use rules::TOOLS;
 
 const NUMBER_SHIFT: u64 = 281474976710656;
 
@@ -23,6 +28,9 @@ const COLUMN_SHIFT: u64 = 4294967296;
 
 // Numbers of a hole: kind, tool, start x and y, end x and y, radius.
 const HOLE_WIDTH: usize = 7;
+
+// Numbers of the counts: the hits of each tool, then the routs.
+const COUNTS_WIDTH: usize = 198;
 
 // The revision that a caller's number names: 2019 is that one, any other number 2021.
 fn revision_of(number: u32) -> Revision
@@ -54,12 +62,89 @@ fn pack(answer: Answer) -> u64
     }
 }
 
+// ---- counts in a lent block
+
+// A number for each tool, from a place of the block on.
+fn part_at(block: &[u32], at: usize) -> [u32; TOOLS]
+    requires { ⌜ at + maxTool ≤ length (now block) ⌝ }
+    ensures { λ r. ⌜ r ≡ take maxTool (drop at (now (block .entry))) ⌝ }
+{
+    let mut part = [0u32; TOOLS];
+    let mut i = 0;
+    while i < TOOLS {
+        part[i] = block[at + i];
+        i += 1;
+    }
+    part
+}
+
+// The same back to the block, the rest as it was.
+fn put_part(block: &mut [u32], at: usize, part: &[u32])
+    requires { ⌜ (at + length (now part) ≤ length (now block)) ⌝ }
+    ensures { λ _. ⌜ now (block .exit) ≡ putAt (now (block .entry)) at (now (part .entry)) ⌝ }
+{
+    let mut i = 0;
+    while i < part.len() {
+        block[at + i] = part[i];
+        i += 1;
+    }
+}
+
+fn counts_in(block: &[u32]) -> Counts
+    requires { ⌜ countsWidth ≤ length (now block) ⌝ }
+    ensures { λ r. ⌜ r ≡ countsIn (now (block .entry)) ⌝ }
+{
+    Counts {
+        hits: part_at(block, 0),
+        routs: part_at(block, TOOLS),
+    }
+}
+
+fn put_counts(block: &mut [u32], counts: Counts)
+    requires { ⌜ countsWidth ≤ length (now block) ⌝ }
+    ensures { λ _. ⌜ now (block .exit) ≡ putAt (now (block .entry)) 0 (countsNumbers counts) ⌝ }
+{
+    put_part(block, 0, &counts.hits);
+    put_part(block, TOOLS, &counts.routs);
+}
+
+// How many of the lent numbers reading may write: none where the block is too short for the counts. Then every file is refused, for
+// a fault of its own first.
+fn room_for(numbers: usize, counts: usize) -> usize
+    ensures { λ r. ⌜ (r ≡ roomFor numbers counts) × (r ≤ numbers) ⌝ }
+{
+    if counts < COUNTS_WIDTH {
+        return 0;
+    }
+    numbers
+}
+
 /// See include/xnc.h.
 #[no_mangle]
-pub extern "C" fn xnc_read(file: &[u8], revision: u32, table: &mut [i32]) -> u64
-    ensures { λ r. ⌜ (r ≡ packed (readAnswer (revisionOf revision) (now (file .entry)) (now (table .entry)))) × (now (table .exit) ≡ readLeaves (revisionOf revision) (now (file .entry)) (now (table .entry))) ⌝ }
+pub extern "C" fn xnc_read(file: &[u8], revision: u32, table: &mut [i32], counts: &mut [u32]) -> u64
+    ensures { λ r. ⌜ ReadDoor revision (now (file .entry)) (now (table .entry)) (now (counts .entry)) r (now (table .exit)) (now (counts .exit)) ⌝ }
 {
-    pack(reader::read(file, revision_of(revision), table))
+    let room = room_for(table.len(), counts.len());
+    let read = reader::read(file, revision_of(revision), &mut table[..room]);
+    let answer = read.answer;
+    match answer {
+        Answer::Refused(refusal, line) => pack_refusal(refusal, line),
+        Answer::Done(n) => {
+            put_counts(counts, read.counts);
+            n as u64
+        }
+    }
+}
+
+// The answer where the block is too short: 15 after every refusal that does not look into it.
+fn pack_without_block(answer: Answer) -> u64
+    requires { ⌜ Narrow (said answer) ⌝ }
+    ensures { λ r. ⌜ r ≡ packed (noBlock answer) ⌝ }
+{
+    match answer {
+        Answer::Done(_) => pack_refusal(NO_ROOM, 0),
+        Answer::Refused(refusal, line) => pack_refusal(refusal, line),
+    }
 }
 
 /// See include/xnc.h.
@@ -70,10 +155,56 @@ pub extern "C" fn xnc_edit(
     line: usize,
     text: &[u8],
     revision: u32,
+    counts: &mut [u32],
 ) -> u64
-    ensures { λ r. ⌜ (r ≡ packed (editAnswer (revisionOf revision) (now (table .entry)) n line (now (text .entry)))) × (now (table .exit) ≡ editLeaves (revisionOf revision) (now (table .entry)) n line (now (text .entry))) ⌝ }
+    ensures { λ r. ⌜ EditDoor (now (table .entry)) n line (now (text .entry)) revision (now (counts .entry)) r (now (table .exit)) (now (counts .exit)) ⌝ }
 {
-    pack(editor::edit(table, n, line, text, revision_of(revision)))
+    let by = revision_of(revision);
+    if counts.len() < COUNTS_WIDTH {
+        return pack_without_block(editor::meeting(table, n, line, text, by));
+    }
+    let edited = editor::edit(table, n, line, text, by, counts_in(counts));
+    let answer = edited.answer;
+    match answer {
+        Answer::Refused(refusal, at) => pack_refusal(refusal, at),
+        Answer::Done(meeting) => {
+            put_counts(counts, edited.counts);
+            meeting as u64
+        }
+    }
+}
+
+// A tool's count, of those from a place of the block on.
+fn count_at(block: &[u32], at: usize, tool: u32) -> u64
+    requires { ⌜ at + maxTool ≤ countsWidth ⌝ }
+    ensures { λ r. ⌜ r ≡ packed (lastBlock (now (block .entry)) (countOf (take maxTool (drop at (now (block .entry)))) tool)) ⌝ }
+{
+    if tool == 0 {
+        return pack_refusal(NO_SUCH_TOOL, 0);
+    }
+    if MAX_TOOL < tool {
+        return pack_refusal(NO_SUCH_TOOL, 0);
+    }
+    if block.len() < COUNTS_WIDTH {
+        return pack_refusal(NO_ROOM, 0);
+    }
+    block[at + (tool as usize - 1)] as u64
+}
+
+/// See include/xnc.h.
+#[no_mangle]
+pub extern "C" fn xnc_hits(counts: &[u32], tool: u32) -> u64
+    ensures { λ r. ⌜ r ≡ packed (lastBlock (now (counts .entry)) (hitsAnswer (countsIn (now (counts .entry))) tool)) ⌝ }
+{
+    count_at(counts, 0, tool)
+}
+
+/// See include/xnc.h.
+#[no_mangle]
+pub extern "C" fn xnc_routs(counts: &[u32], tool: u32) -> u64
+    ensures { λ r. ⌜ r ≡ packed (lastBlock (now (counts .entry)) (routsAnswer (countsIn (now (counts .entry))) tool)) ⌝ }
+{
+    count_at(counts, TOOLS, tool)
 }
 
 // A hole's seven numbers at the front of the block, the rest as it was.

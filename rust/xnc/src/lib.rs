@@ -5,6 +5,11 @@
 //! with everything lent left as it was. A table has [`ROW_WIDTH`] numbers for each
 //! line.
 //!
+//! Beside a table stand its counts, how many hits and how many routs each tool
+//! makes: [`COUNTS_WIDTH`] numbers, for which [`Counts`] has room. Counts belong to
+//! their table. [`read`] hands them out, and each [`edit`] of that table takes them
+//! in and brings them up to date. After a refused call they are as they were.
+//!
 //! A column says which byte of the line is refused. It counts from 1; 0 means
 //! none. Refusals 4 and 7 of [`read`] and [`edit`] have one, from 1 to 256: for 4
 //! the first forbidden byte, for 7 the first byte of the leftmost number that is
@@ -14,15 +19,19 @@
 //! ```no_run
 //! let file = b"M48\nMETRIC\nT01C0.5\n%\nG05\nT1\nX2Y-3.5\nM30\n";
 //! let mut table = [0; xnc::ROW_WIDTH * 8];
-//! let rows = xnc::read(file, xnc::Revision::Rev2021, &mut table).result()? as usize;
+//! let mut counts = xnc::Counts::new();
+//! let revision = xnc::Revision::Rev2021;
+//! let rows = xnc::read(file, revision, &mut table, &mut counts).result()? as usize;
 //! let mut hole = [0; 7];
 //! if xnc::hole(&table, rows, 7, &mut hole).result()? == 1 {
 //!     println!("tool {} at {}, {}", hole[1], hole[2], hole[3]);
 //! }
+//! println!("tool 1 makes {} hits", xnc::hits(&counts, 1).result()?);
 //! # Ok::<(), xnc::Refusal>(())
 //! ```
 
 use std::fmt;
+use std::ops::{Deref, DerefMut};
 
 mod raw {
     extern "C" {
@@ -32,6 +41,8 @@ mod raw {
             revision: u32,
             table: *mut i32,
             table_len: usize,
+            counts: *mut u32,
+            counts_len: usize,
         ) -> u64;
         pub fn xnc_edit(
             table: *mut i32,
@@ -41,6 +52,8 @@ mod raw {
             text: *const u8,
             text_len: usize,
             revision: u32,
+            counts: *mut u32,
+            counts_len: usize,
         ) -> u64;
         pub fn xnc_hole(
             table: *const i32,
@@ -57,6 +70,8 @@ mod raw {
             text: *mut u8,
             text_len: usize,
         ) -> u64;
+        pub fn xnc_hits(counts: *const u32, counts_len: usize, tool: u32) -> u64;
+        pub fn xnc_routs(counts: *const u32, counts_len: usize, tool: u32) -> u64;
     }
 }
 
@@ -68,6 +83,49 @@ mod raw {
 /// its kind has none. Only an arc has decimals, 0 to 6: they say how far its radius
 /// reaches, and the writer gives it just as many.
 pub const ROW_WIDTH: usize = 16;
+
+/// Numbers in a table's counts: the hits of tools 1 to 99, then the routs of tools
+/// 1 to 99. A rout is a line or an arc, the hole of a G01, G02 or G03.
+pub const COUNTS_WIDTH: usize = 198;
+
+/// A table's counts, to be lent to the functions as they are: `&counts` and
+/// `&mut counts` stand for slices. A longer slice can be lent just as well; what is
+/// beyond its first [`COUNTS_WIDTH`] numbers is never changed.
+#[derive(Clone, Debug, PartialEq, Eq)]
+pub struct Counts([u32; COUNTS_WIDTH]);
+
+impl Counts {
+    /// Counts that are all zero, for [`read`] to put a table's own into.
+    pub const fn new() -> Counts {
+        Counts([0; COUNTS_WIDTH])
+    }
+}
+
+impl Default for Counts {
+    fn default() -> Counts {
+        Counts::new()
+    }
+}
+
+impl From<[u32; COUNTS_WIDTH]> for Counts {
+    fn from(numbers: [u32; COUNTS_WIDTH]) -> Counts {
+        Counts(numbers)
+    }
+}
+
+impl Deref for Counts {
+    type Target = [u32];
+
+    fn deref(&self) -> &[u32] {
+        &self.0
+    }
+}
+
+impl DerefMut for Counts {
+    fn deref_mut(&mut self) -> &mut [u32] {
+        &mut self.0
+    }
+}
 
 /// The revision of XNC by whose rule lines are read: 2019 also takes a
 /// declaration with one digit, as `T1C0.6`. All else is the same by both.
@@ -133,20 +191,54 @@ impl std::error::Error for Refusal {}
 // the ones lent for writing are borrowed mutably, so no two of them overlap.
 // The library keeps no pointer.
 
-/// Reads `file` into `table`, [`ROW_WIDTH`] numbers a line. Counts the lines.
-pub fn read(file: &[u8], revision: Revision, table: &mut [i32]) -> Answer {
-    let revision = revision as u32;
+/// Reads `file` into `table`, [`ROW_WIDTH`] numbers a line, and the table's counts
+/// into `counts`; what stood there before doesn't matter. Counts the lines.
+///
+/// A block of counts under [`COUNTS_WIDTH`] numbers is refused 15 at line 0, after
+/// all other refusals. After a refusal the table and the counts are as they were.
+pub fn read(file: &[u8], revision: Revision, table: &mut [i32], counts: &mut [u32]) -> Answer {
     Answer::unpack(unsafe {
-        raw::xnc_read(file.as_ptr(), file.len(), revision, table.as_mut_ptr(), table.len())
+        raw::xnc_read(
+            file.as_ptr(),
+            file.len(),
+            revision as u32,
+            table.as_mut_ptr(),
+            table.len(),
+            counts.as_mut_ptr(),
+            counts.len(),
+        )
     })
 }
 
 /// Puts `text` in the place of line `line` (from 1) of the table's `n` rows.
 /// Counts the meeting line: the rows from `line` to it may have changed.
-pub fn edit(table: &mut [i32], n: usize, line: usize, text: &[u8], revision: Revision) -> Answer {
-    let revision = revision as u32;
+///
+/// `counts` are the table's own, as [`read`] or the edit before left them. The old
+/// holes of those rows are taken away from them and the new ones added, so that
+/// they are the edited table's own. After all other refusals, a block of counts
+/// under [`COUNTS_WIDTH`] numbers is refused 15 at line 0, and then 18 at line 0 a
+/// count over 1,000 or under what is taken away from it. After a refusal the table
+/// and the counts are as they were.
+pub fn edit(
+    table: &mut [i32],
+    n: usize,
+    line: usize,
+    text: &[u8],
+    revision: Revision,
+    counts: &mut [u32],
+) -> Answer {
     Answer::unpack(unsafe {
-        raw::xnc_edit(table.as_mut_ptr(), table.len(), n, line, text.as_ptr(), text.len(), revision)
+        raw::xnc_edit(
+            table.as_mut_ptr(),
+            table.len(),
+            n,
+            line,
+            text.as_ptr(),
+            text.len(),
+            revision as u32,
+            counts.as_mut_ptr(),
+            counts.len(),
+        )
     })
 }
 
@@ -163,4 +255,18 @@ pub fn write(table: &[i32], n: usize, text: &mut [u8]) -> Answer {
     Answer::unpack(unsafe {
         raw::xnc_write(table.as_ptr(), table.len(), n, text.as_mut_ptr(), text.len())
     })
+}
+
+/// Asks how many hits `tool` makes in the table whose counts these are. Counts
+/// them.
+///
+/// A tool that isn't 1 to 99 is refused 7 at line 0, without a column; then a block
+/// of counts under [`COUNTS_WIDTH`] numbers is refused 15 at line 0.
+pub fn hits(counts: &[u32], tool: u32) -> Answer {
+    Answer::unpack(unsafe { raw::xnc_hits(counts.as_ptr(), counts.len(), tool) })
+}
+
+/// Asks how many routs `tool` makes, lines and arcs. Else as [`hits`].
+pub fn routs(counts: &[u32], tool: u32) -> Answer {
+    Answer::unpack(unsafe { raw::xnc_routs(counts.as_ptr(), counts.len(), tool) })
 }

@@ -1,98 +1,59 @@
--- Each test that fails is a refusal; past them all the line takes its new command.
+-- The question, the counts, and only then the change.
+use mathlib.Core.Path.{ap, _∙_}
 use native.Mathlib.Omega.{arith}
-use Rattle.lists.proofs.Choice.{passed}
-use Rattle.laws.proofs.Sizes.{line-says}
-use Rattle.editor.proofs.Tests.{edit-sizes, edit-line, edit-end, edit-before, edit-old, edit-text, edit-may, edit-done}
+use lib.ListN.{length}
+use Rattle.lists.proofs.Put.{put-length}
+use Rattle.editor.proofs.Changes.{asked-no, asked-yes, edit-refused, edit-unfit, edit-done}
 use borrow.Author.Needs.{needs}
 use Rattle.editor.proofs.edit.Statement.{statement}
 use Rattle.editor.proofs.edit.Tie as tie
 
+sub-first : tie.Need-sub-first
+sub-first c = let w = asked-yes _ _ _ _ _ (c .before .before .before .ask .ensures) (c .before .meeting .given .1) in omega (arith, w .from)
+
+mul-first : tie.Need-mul-first
+mul-first c = let w = asked-yes _ _ _ _ _ (c .before .before .before .ask .ensures) (c .before .meeting .given .1) in omega (arith, w .counted, w .upto, w .few)
+
+mul-end : tie.Need-mul-end
+mul-end c = let w = asked-yes _ _ _ _ _ (c .before .before .before .ask .ensures) (c .before .meeting .given .1) in omega (arith, w .upto, w .few)
+
+mul-without-rows : tie.Need-mul-without-rows
+mul-without-rows c = let w = asked-yes _ _ _ _ _ (c .before .before .before .ask .ensures) (c .before .meeting .given .1) in omega (arith, w .counted, w .upto, w .few)
+
+sub-without-rows : tie.Need-sub-without-rows
+sub-without-rows c = let w = asked-yes _ _ _ _ _ (c .before .before .before .ask .ensures) (c .before .meeting .given .1) in omega (arith, w .counted)
+
+part-without-rows-start : tie.Need-part-without-rows-start
+part-without-rows-start c = let w = asked-yes _ _ _ _ _ (c .before .before .before .before .ask .ensures) (c .before .before .meeting .given .1) in omega (arith, w .counted)
+
+part-without-rows-end : tie.Need-part-without-rows-end
+part-without-rows-end c = let w = asked-yes _ _ _ _ _ (c .before .before .before .before .ask .ensures) (c .before .before .meeting .given .1) in omega (arith, w .upto, w .room)
+
 returns : tie.Need-returns
-returns c =
-    let e = c .before in let a = e .before .before .before .args in
-    edit-sizes (a .revision) (a .table .now) (a .n) (a .line) (a .text .now) (e .sizes-fit .ensures) (c .if1 .taken)
+returns c = let w = asked-yes _ _ _ _ _ (c .before .before .before .before .before .before .before .before .ask .ensures) (c .before .before .before .before .before .before .meeting .given .1) in edit-unfit _ _ _ _ _ _ w (c .before .before .without-rows .ensures) (c .if1 .taken)
+
+change-requires : tie.Need-change-requires
+change-requires c κs = let w = asked-yes _ _ _ _ _ (c .before .before .before .before .before .before .before .before .before .ask .ensures) (c .before .before .before .before .before .before .before .meeting .given .1) in (w .room, w .from, omega (arith, w .later, w .upto), w .command-ok, w .state-ok)
+
+mul-with-rows : tie.Need-mul-with-rows
+mul-with-rows c = let w = asked-yes _ _ _ _ _ (c .before .before .before .before .before .before .before .before .before .before .before .ask .ensures) (c .before .before .before .before .before .before .before .before .before .meeting .given .1) in omega (arith, w .counted, w .upto, w .few)
+
+sub-with-rows : tie.Need-sub-with-rows
+sub-with-rows c = let w = asked-yes _ _ _ _ _ (c .before .before .before .before .before .before .before .before .before .before .before .ask .ensures) (c .before .before .before .before .before .before .before .before .before .meeting .given .1) in omega (arith, w .counted)
+
+part-with-rows-start : tie.Need-part-with-rows-start
+part-with-rows-start c = let w = asked-yes _ _ _ _ _ (c .before .before .before .before .before .before .before .before .before .before .before .before .ask .ensures) (c .before .before .before .before .before .before .before .before .before .before .meeting .given .1) in omega (arith, w .counted)
+
+part-with-rows-end : tie.Need-part-with-rows-end
+part-with-rows-end c = let w = asked-yes _ _ _ _ _ (c .before .before .before .before .before .before .before .before .before .before .before .before .ask .ensures) (c .before .before .before .before .before .before .before .before .before .before .meeting .given .1) in omega (arith, w .upto, w .room, c .before .before .change .kept .0)
 
 returns-2 : tie.Need-returns-2
-returns-2 c =
-    let e = c .before in let a = e .before .before .before .before .before .args in
-    edit-line (a .revision) (a .table .now) (a .n) (a .line) (a .text .now) (e .before .before .sizes-fit .ensures) (e .before .if1 .left) (e .is-line .ensures)
-    (c .if2 .taken)
+returns-2 c = edit-refused _ _ _ _ _ _ (asked-no _ _ _ _ _ (c .before .before .before .ask .ensures) (c .before .refusal .given .1))
 
 returns-3 : tie.Need-returns-3
 returns-3 c =
-    let e = c .before in let a = e .before .before .before .before .before .before .before .args in
-    edit-end (a .revision) (a .table .now) (a .n) (a .line) (a .text .now) (e .before .before .before .before .sizes-fit .ensures) (e .before .before .before .if1 .left)
-    (e .before .before .is-line .ensures) (e .before .if2 .left) (e .no-line-end .ensures) (c .if3 .taken)
-
-sub-t23 : tie.Need-sub-t23
-sub-t23 c =
-    omega (
-      arith,
-      line-says _ _
-          (passed (c .before .before .before .before .before .before .before .is-line .ensures) (c .before .before .before .before .before .before .if2 .left)) .0,
-    )
-
-sub-look : tie.Need-sub-look
-sub-look c =
-    omega (
-      arith,
-      line-says _ _
-          (passed (c .before .before .before .before .before .before .before .before .before .is-line .ensures)
-          (c .before .before .before .before .before .before .before .before .if2 .left)) .0,
-    )
-
-returns-4 : tie.Need-returns-4
-returns-4 c =
-    let e = c .before .before .before .before .before .before .before .before .before .before .before .before .before .before in
-    let a = e .before .before .before .before .before .before .before .before .args in
-    edit-text (a .revision) (a .table .now) (a .n) (a .line) (a .text .now) (e .before .before .before .before .before .sizes-fit .ensures)
-    (e .before .before .before .before .if1 .left) (e .before .before .before .is-line .ensures) (e .before .before .if2 .left)
-    (e .before .no-line-end .ensures) (e .if3 .left)
-    (c .before .before .before .before .before .before .before .before .before .before .before .before .state-before .ensures) _
-    (c .before .before .before .before .before .before .before .before .before .before .before2 .given .1)
-    (c .before .before .before .before .before .before .before .look .ensures) _ _ (c .before .before .before .before .before .old .given .1)
-    (c .before .before .before .read .ensures) (c .if4 .taken)
-
-edit-from-requires : tie.Need-edit-from-requires
-edit-from-requires c κs =
-    let e = c .before .before .before .before .before .before .before .before .before .before .before .before .before .before .before in
-    let a = e .before .before .before .before .before .before .before .before .args in
-    edit-may (a .revision) (a .table .now) (a .n) (a .line) (a .text .now) (e .before .before .before .before .before .sizes-fit .ensures)
-    (e .before .before .before .before .if1 .left) (e .before .before .before .is-line .ensures) (e .before .before .if2 .left)
-    (e .before .no-line-end .ensures) (e .if3 .left)
-    (c .before .before .before .before .before .before .before .before .before .before .before .before .before .state-before .ensures) _
-    (c .before .before .before .before .before .before .before .before .before .before .before .before2 .given .1)
-    (c .before .before .before .before .before .before .before .before .look .ensures) _ _ (c .before .before .before .before .before .before .old .given .1)
-    (c .before .before .before .before .read .ensures)
-
-returns-5 : tie.Need-returns-5
-returns-5 c =
-    let e = c .before .before .before .before in let a = e .before .before .before .before .before .before .before .before .args in
-    edit-before (a .revision) (a .table .now) (a .n) (a .line) (a .text .now) (e .before .before .before .before .before .sizes-fit .ensures)
-    (e .before .before .before .before .if1 .left) (e .before .before .before .is-line .ensures) (e .before .before .if2 .left)
-    (e .before .no-line-end .ensures) (e .if3 .left) (c .before .before .state-before .ensures) (c .enum-told .given .1)
-
-returns-6 : tie.Need-returns-6
-returns-6 c =
-    let e = c .before .before .before .before .before .before .before .before .before in
-    let a = e .before .before .before .before .before .before .before .before .args in
-    edit-old (a .revision) (a .table .now) (a .n) (a .line) (a .text .now) (e .before .before .before .before .before .sizes-fit .ensures)
-    (e .before .before .before .before .if1 .left) (e .before .before .before .is-line .ensures) (e .before .before .if2 .left)
-    (e .before .no-line-end .ensures) (e .if3 .left) (c .before .before .before .before .before .before .before .state-before .ensures) _
-    (c .before .before .before .before .before .before2 .given .1) (c .before .before .look .ensures) (c .enum-told2 .given .1)
-
-returns-7 : tie.Need-returns-7
-returns-7 c =
-    let e = c .before .before .before .before .before .before .before .before .before .before .before .before .before .before .before .before .before in
-    let a = e .before .before .before .before .before .before .before .before .args in
-    edit-done (a .revision) (a .table .now) (a .n) (a .line) (a .text .now) (e .before .before .before .before .before .sizes-fit .ensures)
-    (e .before .before .before .before .if1 .left) (e .before .before .before .is-line .ensures) (e .before .before .if2 .left)
-    (e .before .no-line-end .ensures) (e .if3 .left)
-    (c .before .before .before .before .before .before .before .before .before .before .before .before .before .before .before .state-before .ensures) _
-    (c .before .before .before .before .before .before .before .before .before .before .before .before .before .before2 .given .1)
-    (c .before .before .before .before .before .before .before .before .before .before .look .ensures) _ _
-    (c .before .before .before .before .before .before .before .before .old .given .1) (c .before .before .before .before .before .before .read .ensures)
-    (c .before .before .before .if4 .left) (c .before .edit-from .ensures)
+    let w = asked-yes _ _ _ _ _ (c .before .before .before .before .before .before .before .before .before .before .before .before .before .before .ask .ensures) (c .before .before .before .before .before .before .before .before .before .before .before .before .meeting .given .1) in
+    edit-done _ _ _ _ _ _ w (c .before .before .before .before .before .before .before .before .without-rows .ensures) (c .before .before .before .before .before .before .if1 .left) (c .before .before .before .before .change .ensures) (c .with-rows .ensures)
 
 pub edit-spec : {M : Type 1} → statement M
 edit-spec =
@@ -100,28 +61,24 @@ edit-spec =
     (tie.spec
     (λ c κs. search needs)
     (λ c. search needs)
+    (λ c. search needs)
+    sub-first
+    mul-first
+    mul-end
+    mul-without-rows
+    sub-without-rows
+    part-without-rows-start
+    part-without-rows-end
+    (λ c κs. search needs)
+    (λ c. search needs)
     returns
+    change-requires
+    mul-with-rows
+    sub-with-rows
+    part-with-rows-start
+    part-with-rows-end
     (λ c κs. search needs)
     (λ c. search needs)
     returns-2
-    (λ c κs. search needs)
     (λ c. search needs)
-    returns-3
-    (λ c κs. search needs)
-    (λ c. search needs)
-    sub-t23
-    (λ c. search needs)
-    sub-look
-    (λ c κs. search needs)
-    (λ c. search needs)
-    (λ c. search needs)
-    (λ c κs. search needs)
-    (λ c. search needs)
-    returns-4
-    edit-from-requires
-    (λ c. search needs)
-    returns-5
-    (λ c. search needs)
-    returns-6
-    (λ c. search needs)
-    returns-7)
+    returns-3)

@@ -4,14 +4,15 @@ use native.Mathlib.Omega.{arith}
 use borrow.Author.Needs.{needs}
 use Rattle.rules.specs.Numbers.{maxTool}
 use Rattle.text.proofs.Wrote.{Rest, rest-turn, rest-end, wrote-length}
-use Rattle.report.specs.Parts.{linesOfTools}
+use Rattle.report.specs.Parts.{lineOfTool, linesOfTools}
+use Rattle.report.proofs.Puts.{tool-turn}
 use Rattle.report.proofs.Turns.{tools-next, tools-over}
 use Rattle.report.proofs.parts.put_tools.Statement.{statement}
 use Rattle.report.proofs.parts.put_tools.Tie as tie
 
 abbrev Inv-loop : tie.InvT-loop
 Inv-loop text₀ at table n declared end₀ tool₀ text end tool =
-    (1 ≤ tool) × (tool ≤ maxTool + 1) × Rest text₀ at (linesOfTools table n declared maxTool) text end (linesOfTools table n declared (maxTool + 1 - tool))
+    (1 ≤ tool) × (tool ≤ maxTool + 1) × Rest text₀ at (linesOfTools (lineOfTool table n declared) maxTool) text end (linesOfTools (lineOfTool table n declared) (maxTool + 1 - tool))
 
 abbrev μ-loop : tie.MeasureT-loop
 μ-loop text₀ at table n declared end₀ tool₀ text end tool = maxTool + 1 - tool
@@ -27,15 +28,20 @@ loop-less c = omega arith
 
 loop-again : tie.Need-loop-again Inv-loop μ-loop
 loop-again c =
-    let s = c .before .before .before .before .before .before .before in
-    let l = c .before .before .before .before .before .loop in
-    (omega arith, omega arith, rest-turn _ (l .inv .2) _ (tools-next (s .args .table .now) (s .args .n) (s .args .declared) (l .tool) (l .inv .0) (omega arith)) (c .before .before .put-tool .ensures))
+    let d = c .before .before .before .before in
+    let s = d .before .before .before .before in
+    let l = d .before .before .loop in (
+      omega arith,
+      omega arith,
+      rest-turn _ (l .inv .2) _ (tools-next (lineOfTool (s .args .table .now) (s .args .n) (s .args .declared)) (l .tool) (l .inv .0) (omega arith))
+          (tool-turn (s .args .table .now) (s .args .n) (s .args .declared) (l .tool) (d .diameter-of .ensures) (c .before .before .put-tool .ensures)),
+    )
 
 returns : tie.Need-returns Inv-loop μ-loop
 returns c =
     let s = c .before .before .before in
     let l = c .before .loop in
-    rest-end _ (l .inv .2) (tools-over (s .args .table .now) (s .args .n) (s .args .declared) (l .tool) (c .loop-test .left))
+    rest-end _ (l .inv .2) (tools-over (lineOfTool (s .args .table .now) (s .args .n) (s .args .declared)) (l .tool) (c .loop-test .left))
 
 same-length : tie.Need-same-length Inv-loop μ-loop
 same-length c = wrote-length (returns c)
@@ -47,6 +53,7 @@ put-tools-spec =
     Inv-loop
     μ-loop
     loop-holds
+    (λ c κs. search needs)
     (λ c κs. search needs)
     add-tool
     loop-less
