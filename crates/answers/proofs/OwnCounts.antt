@@ -15,7 +15,7 @@ use Rattle.rules.specs.declared.State.{State}
 use Rattle.rules.specs.declared.Way.{Way}
 use Rattle.rules.specs.Numbers.{maxTool, maxLines}
 use Rattle.rules.specs.Reading.{Rows}
-use Rattle.rules.specs.Counting.{eachTool, ofTool, hits, routs, howMany, countsOf, maxCount, enough, countsFit, replaced, countsAfter}
+use Rattle.rules.specs.Counting.{eachTool, ofTool, hits, routs, howMany, countsOf, maxCount, wayFits, countsFit, replaced, countsAfter}
 use Rattle.rules.specs.Editing.{oldRows}
 use Rattle.laws.proofs.EachTool.{of-each, each-same, each-so}
 use Rattle.laws.proofs.HowMany.{howMany-few, howMany-part, howMany-put}
@@ -26,9 +26,9 @@ module _ (w : Way) (rs : Rows) where
   own : (t : ℕ) → 1 ≤ t → t ≤ maxTool → ofTool (eachTool (howMany w rs)) t ≡ howMany w rs t
   own t p q = of-each (howMany w rs) t p q
 
-  own-enough : (i j : ℕ) → length rs ≤ maxLines → enough w (take j (drop i rs)) (eachTool (howMany w rs)) ≡ true
-  unfolding enough
-  own-enough i j few =
+  own-way : (i j : ℕ) → length rs ≤ maxLines → wayFits w (take j (drop i rs)) (eachTool (howMany w rs)) ≡ true
+  unfolding wayFits
+  own-way i j few =
       each-so (λ t. leb (ofTool (eachTool (howMany w rs)) t) maxCount && leb (howMany w (take j (drop i rs)) t) (ofTool (eachTool (howMany w rs)) t))
       (λ t p q. rw (
         own t p q,
@@ -50,7 +50,7 @@ module _ (rs : Rows) (k : ℕ) (s : Span Command State) where
 
   pub own-fit : length rs ≤ maxLines → countsFit (oldRows (allHold rs) k s) (countsOf rs) ≡ true
   unfolding countsFit countsOf
-  own-fit few = rw (old-rows, own-enough hits rs (k - 1) (length (s .rows)) few, own-enough routs rs (k - 1) (length (s .rows)) few)
+  own-fit few = rw (old-rows, own-way hits rs (k - 1) (length (s .rows)) few, own-way routs rs (k - 1) (length (s .rows)) few)
 
   pub own-after : countsAfter (oldRows (allHold rs) k s) (s .rows) (countsOf rs) ≡ countsOf (putAt rs (k - 1) (s .rows))
   unfolding countsAfter countsOf

@@ -11,7 +11,7 @@ use Rattle.rules.specs.State.{need, step, sameState}
 use Rattle.rules.specs.Rows.{commandNumbers, decimalsOf, stateNumbers, rowNumbers, tableNumbers, within, isCoord, legalTool, legalPoint, legalSize, legalDecimals, legalCommand, isEven, legalState, rowTest, commandFrom, commandAt, stateAt, lookOf, entriesOf, sizesFit}
 use Rattle.rules.specs.Holes.{holeOf}
 use Rattle.rules.specs.Reading.{answerIn, commandIn, runOf, fileOf, hasRoom, readAnswer, readLeaves}
-use Rattle.rules.specs.Counting.{fromTool, fromToolAll, howMany, countsOf, readCounts, enough, countsFit, countsAfter}
+use Rattle.rules.specs.Counting.{fromTool, fromToolAll, howMany, countsOf, readCounts, wayFits, countsFit, countsAfter}
 use Rattle.rules.specs.Editing.{isLine, noLineEnd, beforeLine, editFrom, editRows, editOf, oldRows, editCounted, editAnswer, editLeaves, editCounts}
 use Rattle.rules.specs.Asking.{declaredBy, diameterIn, holeIn, holeAnswer}
 use Rattle.rules.specs.Writing.{lastDigits, widthOf, placesOf, fractionText, numberText, radiusText, coordinateText, toolText, pointText, arcText, spelt, lineText, textOfRows}
@@ -21,7 +21,7 @@ use Rattle.demands.specs.BenchFile.{BenchFile}
 
 -- what the cases compute with
 unfoldable pub computing : Unit {0}
-unfolding startsWith run rerun follow lastOf isDigit digitsOf magnitudeOf unsignedOf signedOf millionths isCoordinate coordinateOf isSize isTool linesOf endsInCR textOf isPrintable allowedBytes noSemicolon commentForm pointForm arcForm toolForm formOf columnAfter inRange meaningOf commandOf lineOf has insert sameNumber samePoint squareOfDifference squareOfDistance square lastUnit isPossible need step sameTools sameState commandNumbers decimalsOf stateNumbers rowNumbers tableNumbers within isCoord legalTool legalPoint legalSize legalDecimals legalCommand isEven legalState rowTest commandFrom commandAt stateAt lookOf entriesOf sizesFit allHold holeOf answerIn commandIn runOf fileOf hasRoom readAnswer readLeaves isLine noLineEnd beforeLine editFrom editRows editOf editAnswer editLeaves declaredBy diameterIn holeIn holeAnswer lastDigits widthOf placesOf fractionText numberText radiusText coordinateText toolText pointText arcText spelt lineText textOfRows shown decimal signedDecimal printedLine unitLine toolLines holeLines holeCount holesText printed zeros benchTable benchRows expected answered wholeRows fromTool fromToolAll howMany countsOf readCounts enough countsFit countsAfter oldRows editCounted editCounts benchCounts countsLines countsPrinted
+unfolding startsWith run rerun follow lastOf isDigit digitsOf magnitudeOf unsignedOf signedOf millionths isCoordinate coordinateOf isSize isTool linesOf endsInCR textOf isPrintable allowedBytes noSemicolon commentForm pointForm arcForm toolForm formOf columnAfter inRange meaningOf commandOf lineOf has insert sameNumber samePoint squareOfDifference squareOfDistance square lastUnit isPossible need step sameTools sameState commandNumbers decimalsOf stateNumbers rowNumbers tableNumbers within isCoord legalTool legalPoint legalSize legalDecimals legalCommand isEven legalState rowTest commandFrom commandAt stateAt lookOf entriesOf sizesFit allHold holeOf answerIn commandIn runOf fileOf hasRoom readAnswer readLeaves isLine noLineEnd beforeLine editFrom editRows editOf editAnswer editLeaves declaredBy diameterIn holeIn holeAnswer lastDigits widthOf placesOf fractionText numberText radiusText coordinateText toolText pointText arcText spelt lineText textOfRows shown decimal signedDecimal printedLine unitLine toolLines holeLines holeCount holesText printed zeros benchTable benchRows expected answered wholeRows fromTool fromToolAll howMany countsOf readCounts wayFits countsFit countsAfter oldRows editCounted editCounts benchCounts countsLines countsPrinted
 computing = tt
 
 -- its table is written as a file of as many lines, of which one differs: line 7 is T01

@@ -23,7 +23,7 @@ use Rattle.rules.specs.Refusals.{badTable}
 use Rattle.rules.specs.Numbers.{maxTool}
 use Rattle.rules.specs.Rows.{entriesOf}
 use Rattle.rules.specs.Reading.{Rows}
-use Rattle.rules.specs.Counting.{ofTool, hits, routs, howMany, maxCount, enough, countsFit}
+use Rattle.rules.specs.Counting.{ofTool, hits, routs, howMany, maxCount, wayFits, countsFit}
 use Rattle.rules.specs.Editing.{editOf, meetingOf, meetingAnswer, oldRows, editAnswer}
 use Rattle.laws.proofs.EachTool.{each-not, each-fails}
 use Rattle.laws.proofs.OldRows.{edit-stood}
@@ -40,9 +40,9 @@ module _ (w : Way) (old : Rows) (l : List ℕ) where
   fault-at tool p q true b e f h = below tool p q (leb-false (howMany w old tool) (ofTool l tool) (f ∙ h))
   fault-at tool p q false b e f h = above tool p q (leb-false (ofTool l tool) maxCount e)
 
-  not-enough : enough w old l ≡ false → CountFault w old l
-  unfolding enough
-  not-enough h =
+  way-fault : wayFits w old l ≡ false → CountFault w old l
+  unfolding wayFits
+  way-fault h =
       let x = each-fails (λ t. leb (ofTool l t) maxCount && leb (howMany w old t) (ofTool l t)) h in
       fault-at (x .0) (x .1 .0) (x .1 .1) (leb (ofTool l (x .0)) maxCount) (leb (howMany w old (x .0)) (ofTool l (x .0))) refl refl (x .1 .2)
 
@@ -50,26 +50,26 @@ module _ (w : Way) (old : Rows) (l : List ℕ) where
   no-second true = refl
   no-second false = refl
 
-  fault-says : CountFault w old l → enough w old l ≡ false
-  unfolding enough
+  fault-says : CountFault w old l → wayFits w old l ≡ false
+  unfolding wayFits
   fault-says (above tool p q h) = each-not (λ t. leb (ofTool l t) maxCount && leb (howMany w old t) (ofTool l t)) tool p q (rw (lt-leb (ofTool l tool) maxCount h))
   fault-says (below tool p q h) =
       each-not (λ t. leb (ofTool l t) maxCount && leb (howMany w old t) (ofTool l t)) tool p q
       (rw (lt-leb (howMany w old tool) (ofTool l tool) h) (no-second (leb (ofTool l tool) maxCount)))
 
 module _ (old : Rows) (c : Counts) where
-  pick-fault : (a b : Bool) → enough hits old (c .hits) ≡ a → enough routs old (c .routs) ≡ b → (a && b) ≡ false → CountsFault old c
-  pick-fault true b e f h = in-routs (not-enough routs old (c .routs) (f ∙ h))
-  pick-fault false b e f h = in-hits (not-enough hits old (c .hits) e)
+  pick-fault : (a b : Bool) → wayFits hits old (c .hits) ≡ a → wayFits routs old (c .routs) ≡ b → (a && b) ≡ false → CountsFault old c
+  pick-fault true b e f h = in-routs (way-fault routs old (c .routs) (f ∙ h))
+  pick-fault false b e f h = in-hits (way-fault hits old (c .hits) e)
 
   pub unfit-fault : countsFit old c ≡ false → CountsFault old c
   unfolding countsFit
-  unfit-fault h = pick-fault (enough hits old (c .hits)) (enough routs old (c .routs)) refl refl h
+  unfit-fault h = pick-fault (wayFits hits old (c .hits)) (wayFits routs old (c .routs)) refl refl h
 
   pub fault-unfit : CountsFault old c → countsFit old c ≡ false
   unfolding countsFit
   fault-unfit (in-hits x) = rw (fault-says hits old (c .hits) x)
-  fault-unfit (in-routs x) = rw (fault-says routs old (c .routs) x) (no-second hits old (c .hits) (enough hits old (c .hits)))
+  fault-unfit (in-routs x) = rw (fault-says routs old (c .routs) x) (no-second hits old (c .hits) (wayFits hits old (c .hits)))
 
 -- ---- the rows of the span as they stood, and as they stand afterwards
 

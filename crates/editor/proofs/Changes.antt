@@ -28,7 +28,7 @@ use Rattle.laws.proofs.Entries.{table-length, entries-length, entries-add, entr
 use Rattle.laws.proofs.OldRows.{edit-stood}
 use Rattle.tally.specs.declared.Taken.{Taken}
 use Rattle.tally.specs.Standing.{withRows, withoutRows}
-use Rattle.tally.proofs.RowCounts.{enough-is, counts-replaced}
+use Rattle.tally.proofs.RowCounts.{fits-is, counts-replaced}
 use Rattle.editor.specs.declared.Asked.{Asked}
 use Rattle.editor.specs.declared.Asked.the-variants as A
 use Rattle.editor.specs.Parts.{newRows, Met, Asks}
@@ -100,14 +100,14 @@ module _ (rev : Revision) (t : List ℤ) (n k : ℕ) (l : List ℕ) where
       taken-is : left ≡ withoutRows counts (tableNumbers (oldRows (entriesOf n t) k (w .span)))
       taken-is = le ∙ ap (withoutRows counts) (old-numbers w (edit-stood rev t n k l (w .span) (w .verdict)))
 
-      fit : left .enough ≡ countsFit (oldRows (entriesOf n t) k (w .span)) counts
-      fit = ap (λ (x : Taken). x .enough) taken-is ∙ enough-is (oldRows (entriesOf n t) k (w .span)) counts
+      fit : left .fits ≡ countsFit (oldRows (entriesOf n t) k (w .span)) counts
+      fit = ap (λ (x : Taken). x .fits) taken-is ∙ fits-is (oldRows (entriesOf n t) k (w .span)) counts
 
-      pub edit-unfit : not (left .enough) ≡ true → EditIs rev t n k l counts (record { answer = Refused badTable 0; counts = counts }) t
+      pub edit-unfit : not (left .fits) ≡ true → EditIs rev t n k l counts (record { answer = Refused badTable 0; counts = counts }) t
       unfolding editAnswer editLeaves editCounts editCounted
       edit-unfit h = let f = failed fit h in record { answer = rw (w .verdict, f); leaves = rw (w .verdict, f); counts = rw (w .verdict, f) }
 
-      pub edit-done : not (left .enough) ≡ false → {t′ : List ℤ} → t′ ≡ putAt t (rowWidth * (k - 1)) (tableNumbers (newRows (entriesOf n t) k m c q))
+      pub edit-done : not (left .fits) ≡ false → {t′ : List ℤ} → t′ ≡ putAt t (rowWidth * (k - 1)) (tableNumbers (newRows (entriesOf n t) k m c q))
           → {after : Counts} → after ≡ withRows (left .counts) (numbersOf t′ (rowWidth * (k - 1)) (rowWidth * m))
           → EditIs rev t n k l counts (record { answer = Done m; counts = after }) t′
       unfolding editAnswer editLeaves editCounts editCounted

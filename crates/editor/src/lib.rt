@@ -217,7 +217,7 @@ pub fn edit(
             let first = ROW_WIDTH * (line - 1);
             let end = ROW_WIDTH * meeting;
             let left = tally::without_rows(counts, &table[first..end]);
-            if !left.enough {
+            if !left.fits {
                 return Counted {
                     answer: Answer::Refused(BAD_TABLE, 0),
                     counts: counts,

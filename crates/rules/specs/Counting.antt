@@ -55,7 +55,7 @@ isBy w c = leb (w .first) (Kinds.kindOf c) && leb (Kinds.kindOf c) (w .last)
 abbrev pub one : Bool → ℕ
 one b = cond b 1 0
 
--- how many holes the rows make that way with tool t, the one selected in the row itself; no tool is 0
+-- how many holes the rows make that way with tool t, the one selected in the row itself; one made with tool 0 is no tool's
 unfoldable pub howMany : Way → Rows → ℕ → ℕ
 howMany w [] t = 0
 howMany w (r ∷ rs) t = one (isBy w (r .command) && eqb (r .state .tool) t) + howMany w rs t
@@ -78,11 +78,11 @@ abbrev pub maxCount : ℕ
 maxCount = 1000
 
 -- no count of a way is over that, or under what the old rows take from it
-unfoldable pub enough : Way → Rows → List ℕ → Bool
-enough w old l = forEachTool (λ t. leb (ofTool l t) maxCount && leb (howMany w old t) (ofTool l t))
+unfoldable pub wayFits : Way → Rows → List ℕ → Bool
+wayFits w old l = forEachTool (λ t. leb (ofTool l t) maxCount && leb (howMany w old t) (ofTool l t))
 
 unfoldable pub countsFit : Rows → Counts → Bool
-countsFit old c = enough hits old (c .hits) && enough routs old (c .routs)
+countsFit old c = wayFits hits old (c .hits) && wayFits routs old (c .routs)
 
 -- tool by tool, the old rows' holes are taken away, and then the new ones' added
 abbrev pub replaced : Way → Rows → Rows → List ℕ → List ℕ

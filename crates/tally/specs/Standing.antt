@@ -81,10 +81,10 @@ holdsRows w l c = forEachTool (λ t. leb (ofTool c t) maxCount && leb (standing 
 abbrev pub holdsAll : Counts → List ℤ → Bool
 holdsAll c l = holdsRows hits l (c .hits) && holdsRows routs l (c .routs)
 
-abbrev pub tooFew : Counts → Taken
-tooFew c = record { enough = false; counts = c }
+abbrev pub unfit : Counts → Taken
+unfit c = record { fits = false; counts = c }
 
 unfoldable pub withoutRows : Counts → List ℤ → Taken
 withoutRows c l =
-    cond (holdsAll c l) (record { enough = true; counts = record { hits = fewer hits l (c .hits); routs = fewer routs l (c .routs) } })
-    (tooFew c)
+    cond (holdsAll c l) (record { fits = true; counts = record { hits = fewer hits l (c .hits); routs = fewer routs l (c .routs) } })
+    (unfit c)

@@ -1,5 +1,5 @@
-// One count for each tool, of hits and of routs, and the holes of rows added to them or taken away. A count's rows are handed in as
-// their numbers; they were tested before, or made here.
+// One count for each tool, of hits and of routs, and the holes of rows added to them or taken away. Rows are handed in as their
+// numbers, of which nothing is tested: they were tested, or made, just before.
 ghost use mathlib.Core.Path.{_≡_};
 ghost use mathlib.Core.Bool.{true};
 ghost use Prim.Native.Nat.{_+_, _*_, _≤_};
@@ -20,9 +20,9 @@ use rules::ROW_WIDTH;
 use rules::TOOLS;
 use rules::Way;
 
-/// Counts without some rows' holes, or that they are too few, or too many, for counts that hold them.
+/// Counts without some rows' holes; or, where they can't be counts of a table with those rows, as they were.
 pub struct Taken {
-    pub enough: bool,
+    pub fits: bool,
     pub counts: Counts,
 }
 
@@ -158,11 +158,12 @@ pub fn with_rows(counts: Counts, rows: &[i32]) -> Counts
     }
 }
 
-fn too_few(counts: Counts) -> Taken
-    ensures { λ r. ⌜ r ≡ S.tooFew counts ⌝ }
+// Counts that can't be those of a table with the rows.
+fn unfit(counts: Counts) -> Taken
+    ensures { λ r. ⌜ r ≡ S.unfit counts ⌝ }
 {
     Taken {
-        enough: false,
+        fits: false,
         counts: counts,
     }
 }
@@ -173,21 +174,21 @@ pub fn without_rows(counts: Counts, rows: &[i32]) -> Taken
     ensures { λ r. ⌜ r ≡ S.withoutRows counts (now (rows .entry)) ⌝ }
 {
     if !none_over(&counts.hits) {
-        return too_few(counts);
+        return unfit(counts);
     }
     if !none_over(&counts.routs) {
-        return too_few(counts);
+        return unfit(counts);
     }
     let mut hits = counts.hits;
     if !take(&mut hits, rows, HITS) {
-        return too_few(counts);
+        return unfit(counts);
     }
     let mut routs = counts.routs;
     if !take(&mut routs, rows, ROUTS) {
-        return too_few(counts);
+        return unfit(counts);
     }
     Taken {
-        enough: true,
+        fits: true,
         counts: Counts {
             hits: hits,
             routs: routs,

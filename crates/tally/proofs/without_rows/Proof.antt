@@ -6,23 +6,23 @@ use Rattle.tally.proofs.without_rows.Statement.{statement}
 use Rattle.tally.proofs.without_rows.Tie as tie
 
 returns : tie.Need-returns
-returns c = c .too-few .ensures ∙ hits-over _ _ (c .before .before .none-over .ensures) (c .before .if1 .taken)
+returns c = c .unfit .ensures ∙ hits-over _ _ (c .before .before .none-over .ensures) (c .before .if1 .taken)
 
 returns-2 : tie.Need-returns-2
 returns-2 c =
     let t = c .before in let e = t .before .before .before .before .before in
-    c .too-few2 .ensures ∙ routs-over _ _ (e .before .none-over .ensures) (e .if1 .left) (t .before .none-over2 .ensures) (t .if2 .taken)
+    c .unfit2 .ensures ∙ routs-over _ _ (e .before .none-over .ensures) (e .if1 .left) (t .before .none-over2 .ensures) (t .if2 .taken)
 
 returns-3 : tie.Need-returns-3
 returns-3 c =
     let t = c .before in let f = t .before .before .before .before .before in let e = f .before .before .before .before .before in
-    c .too-few3 .ensures
+    c .unfit3 .ensures
     ∙ hits-under _ _ (e .before .none-over .ensures) (e .if1 .left) (f .before .none-over2 .ensures) (f .if2 .left) (t .before .before .take .ensures) (t .if3 .taken)
 
 returns-4 : tie.Need-returns-4
 returns-4 c =
     let t = c .before in let g = t .before .before .before .before .before in let f = g .before .before .before .before .before in let e = f .before .before .before .before .before in
-    c .too-few4 .ensures
+    c .unfit4 .ensures
     ∙ routs-under _ _ (e .before .none-over .ensures) (e .if1 .left) (f .before .none-over2 .ensures) (f .if2 .left) (g .before .before .take .ensures) (g .if3 .left)
     (t .before .before .take2 .ensures) (t .if4 .taken)
 
