@@ -1,1 +1,2 @@
 // No code: what the answers of reading, editing, writing and asking say.
+#![tactic(auto)]

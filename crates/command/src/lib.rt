@@ -1,5 +1,7 @@
 // Bytes to a command. The first of them say which forms a line can have. Its form is decided to the line's end before any
 // number is asked for its range.
+#![tactic(auto)]
+
 ghost use Rattle.std.specs.Prelude.{◌≡◌, ◌++◌, ◌+◌, ◌≤◌, drop};
 ghost use Rattle.lists.specs.Words.{bytes};
 ghost use Rattle.number.specs.Capped.{decimal_of, coordinate_read};
@@ -22,27 +24,27 @@ const MOST_DIGITS: usize = 2;
 const TOOL_COLUMN: usize = 2;
 
 // X, a number, Y, a number, as they are written.
-#[derive(Drop)]
+#[derive(Clone, Copy)]
 struct Pair {
     x: Written,
     y: Written,
 }
 
-#[derive(Drop)]
+#[derive(Clone, Copy)]
 enum PairRead {
     Got(Pair),
     None,
 }
 
 // The point that such a pair is, or which of its numbers is out of range.
-#[derive(Drop)]
+#[derive(Clone, Copy)]
 enum Placed {
     Is(Point),
     Out(Refusal),
 }
 
 // The commands that have a point alone.
-#[derive(Drop)]
+#[derive(Clone, Copy)]
 enum Pointed {
     G00,
     Hit,
@@ -50,14 +52,14 @@ enum Pointed {
 }
 
 // The commands that have a point and a radius.
-#[derive(Drop)]
+#[derive(Clone, Copy)]
 enum Turned {
     G02,
     G03,
 }
 
 // The commands that are M and two digits.
-#[derive(Drop)]
+#[derive(Clone, Copy)]
 enum Code {
     M15,
     M16,
@@ -65,7 +67,7 @@ enum Code {
     M48,
 }
 
-#[derive(Drop)]
+#[derive(Clone, Copy)]
 enum CodeRead {
     Is(Code),
     None,

@@ -1,6 +1,8 @@
 // Prints how many hits and routs each tool of an XNC file makes: the file comes from standard input, and the lines that document
 // 02's #103 gives go to standard output. The argument 2019 has the file read by that revision. Which bytes are printed is proved in
 // crate report; here they are only handed out.
+#![tactic(auto)]
+
 use report::TEXT_ROOM;
 use rules::{MAX_FILE, Revision, TABLE_ROOM};
 use show::Input;

@@ -1,5 +1,7 @@
 // Editing one line of a lent table, and keeping the counts that go with it. An edit asks first, then takes the old holes from the
 // counts, and only then writes: nothing lent has changed when it is refused.
+#![tactic(auto)]
+
 ghost use Rattle.std.specs.Prelude.{◌≡◌, ◌-◌, ◌*◌, ◌≤◌, length, drop};
 ghost use Rattle.lists.specs.Put.{put_at};
 ghost use Rattle.rules.specs.Answers.{said};
@@ -15,7 +17,7 @@ use rules::{
 };
 
 // What an edit would do, whatever the counts: the meeting line, and the edited line's new row; or the refusal and its line.
-#[derive(Drop)]
+#[derive(Clone, Copy)]
 enum Asked {
     Meets(usize, Command, State),
     Refused(Refusal, usize),

@@ -1,4 +1,6 @@
 // What a command gives to those who ask: the hole that it makes, and the diameter that it declares for a tool.
+#![tactic(auto)]
+
 ghost use Rattle.std.specs.Prelude.{◌≡◌};
 ghost use Rattle.rules.specs.Answers.{hole_said};
 ghost use Rattle.rules.specs.Asking as Asking;

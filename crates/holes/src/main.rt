@@ -1,5 +1,7 @@
 // Prints the holes of an XNC file: it comes from standard input, and the lines that document 01 gives go to standard output. The
 // argument 2019 has the file read by that revision. Which bytes are printed is proved in crate report; here they are only handed out.
+#![tactic(auto)]
+
 use report::TEXT_ROOM;
 use rules::{MAX_FILE, Revision, TABLE_ROOM};
 use show::Input;

@@ -1,1 +1,2 @@
 // No code: laws of the definitions in crate rules.
+#![tactic(auto)]

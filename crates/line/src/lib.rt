@@ -1,4 +1,6 @@
 // A line of a file: where its LF is, its text without the CR, and what it says, given its number.
+#![tactic(auto)]
+
 ghost use Rattle.std.specs.Prelude.{◌≡◌, ◌+◌, drop};
 ghost use Rattle.rules.specs.Lines.{text_of, allowed_bytes};
 ghost use Rattle.rules.specs.Commands.{says_no, line_of};

@@ -1,1 +1,2 @@
 // Laws of lists and bytes that know nothing of drills: no code.
+#![tactic(auto)]

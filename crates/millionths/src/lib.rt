@@ -1,4 +1,6 @@
 // Numbers of millionths as text: how long it is, and its bytes, from place `at` on as crate text has it.
+#![tactic(auto)]
+
 ghost use Rattle.std.specs.Prelude.{◌≡◌, ℕ, ◌+◌, ◌%◌, ◌≤◌, ◌<◌, min, [], ◌∷◌, length};
 ghost use Rattle.rules.specs.Writing.{last_digits, width_of, places_of, fraction_text, number_text, radius_text, coordinate_text};
 ghost use Rattle.rules.specs.Numbers.{max_places};

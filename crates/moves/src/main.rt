@@ -1,6 +1,8 @@
 // Prints what else on the board moves when one line of an XNC file changes. Standard input has the line's number, a tab and the
 // new text on its first line; the file follows. Holes and tools that differ go to standard output. The argument 2019 has file and
 // text read by that revision.
+#![tactic(auto)]
+
 ghost use Rattle.std.specs.Prelude.{◌≡◌, ◌≤◌};
 ghost use Rattle.moves.specs.Moves as Moves;
 

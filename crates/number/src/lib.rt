@@ -1,5 +1,7 @@
 // Bytes to a number. Whether the bytes are a number (the form) and whether the number is in range are two questions: a
 // number out of range still says where it ends, since the form of a whole line is decided before any range.
+#![tactic(auto)]
+
 ghost use Rattle.std.specs.Prelude.{◌≡◌, [], ◌∷◌, ◌<◌, ◌≤◌, ◌+◌, ◌*◌, ◌^◌, ◌-◌, length, drop};
 ghost use Rattle.lists.specs.Words.{starts_with};
 ghost use Rattle.rules.specs.Numbers.{max_places, digits_of, magnitude_of, unsigned_of, signed_of};
@@ -14,7 +16,7 @@ const MAX_PLACES: usize = rules::MAX_PLACES as usize;
 const MAX_NUMBER: u64 = rules::MAX_NUMBER as u64;
 
 /// Digits: their value, exact below 1000000000, which stands for all from there on; and the place after them.
-#[derive(Drop)]
+#[derive(Clone, Copy)]
 pub struct Run {
     pub value: u32,
     pub next: usize,
@@ -22,7 +24,7 @@ pub struct Run {
 
 /// A number as it is written: the column of its first byte, its sign, its digits as one number (a run's value), how many of them stand
 /// after the point, and the place after it.
-#[derive(Drop)]
+#[derive(Clone, Copy)]
 pub struct Written {
     pub column: usize,
     pub negative: bool,
@@ -32,21 +34,21 @@ pub struct Written {
 }
 
 /// A number as it is written, or that none begins here.
-#[derive(Drop)]
+#[derive(Clone, Copy)]
 pub enum Number {
     Got(Written),
     None,
 }
 
 /// A coordinate in millionths, or that it is out of range, and where.
-#[derive(Drop)]
+#[derive(Clone, Copy)]
 pub enum CoordinateRead {
     Is(i32),
     Out(Refusal),
 }
 
 /// A diameter or a radius in millionths, or that it is out of range, and where.
-#[derive(Drop)]
+#[derive(Clone, Copy)]
 pub enum SizeRead {
     Is(u32),
     Out(Refusal),

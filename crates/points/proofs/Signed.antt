@@ -87,11 +87,11 @@ Signed z = mag z < 2 ^ 31
 
 -- of such a number
 pub read_back : (z : ℤ) → Signed z → to_z w32 (of_z w32 z) ≡ z
-read_back z h = to_z-of_z (record { sfits = h })
+read_back z h = to_z-of_z {w = w32} (record { sfits = h })
 
 -- of `x as i64`
 pub widened : (z : ℤ) → SFits w32 z → to_z w64 (of_z w64 (to_z w32 (of_z w32 z))) ≡ z
-widened z h = ap (λ (y : ℤ). to_z w64 (of_z w64 y)) (to_z-of_z h) ∙ to_z-of_z (sfits_widen tt h)
+widened z h = ap (λ (y : ℤ). to_z w64 (of_z w64 y)) (to_z-of_z {w = w32} h) ∙ to_z-of_z {w = w64} (sfits_widen {w = w32} {w' = w64} (tt {0}) h)
 
 -- numbers with the same bits are equal
 pub of_z-inj : (w : Width) (a b : ℤ) → SFits w a → SFits w b → of_z w a ≡ of_z w b → a ≡ b

@@ -1,16 +1,18 @@
 // Points, and the arc rule for every two points and every radius: no number here can overflow.
+#![tactic(auto)]
+
 ghost use Rattle.std.specs.Prelude.{◌≡◌, ◌+◌, ◌*◌, ◌/◌, ◌≤◌, leb, nat_abs, ◌-ℤ◌};
 ghost use Rattle.points.specs.Points as S;
 
 /// A place on the board, in millionths of the file's unit.
-#[derive(Drop)]
+#[derive(Clone, Copy)]
 pub struct Point {
     pub x: i32,
     pub y: i32,
 }
 
 /// Where an arc ends, its radius, and with how many decimals the radius was written.
-#[derive(Drop)]
+#[derive(Clone, Copy)]
 pub struct Arc {
     pub to: Point,
     pub radius: u32,

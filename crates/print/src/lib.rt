@@ -1,5 +1,7 @@
 // The lines that the programs print, as bytes in a lent block: from a place on, or alone in a block of 128 bytes, which has room
 // for every line.
+#![tactic(auto)]
+
 ghost use Rattle.std.specs.Prelude.{leb, length};
 ghost use Rattle.rules.specs.Printing.{decimal, printed_line, hole_fields};
 ghost use Rattle.text.specs.Wrote.{Wrote};

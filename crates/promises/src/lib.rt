@@ -1,1 +1,2 @@
 // That each promise allows one answer, function by function. No code.
+#![tactic(auto)]

@@ -1,4 +1,6 @@
 // Numbers put into a lent table: those of a block, or a row's. The others stay as they were.
+#![tactic(auto)]
+
 ghost use Rattle.std.specs.Prelude.{◌≡◌, ◌+◌, ◌≤◌, [], ◌∷◌, pos, length};
 ghost use Rattle.lists.specs.Put.{put_at, put_in};
 ghost use Rattle.rules.specs.Rows as R;

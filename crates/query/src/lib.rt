@@ -1,4 +1,6 @@
 // Questions put to a lent table: the hole of a line, a tool's diameter.
+#![tactic(auto)]
+
 ghost use Rattle.std.specs.Prelude.{◌≡◌, ◌*◌, ◌≤◌, length};
 ghost use Rattle.rules.specs.Rows as Rows;
 ghost use Rattle.rules.specs.Answers.{hole_said, diameter_said};

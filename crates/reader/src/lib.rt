@@ -1,5 +1,7 @@
 // Reading a file into a lent table, and counting its holes. Its rows are made in a block of our own first, so that nothing lent
 // has changed when the file is refused.
+#![tactic(auto)]
+
 ghost use Rattle.std.specs.Prelude.{◌≡◌, ◌≤◌, length};
 ghost use Rattle.rules.specs.Rows.{table_room};
 ghost use Rattle.reader.specs.Parts.{LinesRead, not_read};

@@ -1,6 +1,8 @@
 // The whole print-outs of the programs `holes` and `counts` as bytes in a lent block, so that a program only reads, calls and
 // writes. Each part writes from place `at` on, as crate text has it, and hands back the place after it; the longest print-out has
 // room.
+#![tactic(auto)]
+
 ghost use Rattle.std.specs.Prelude.{◌≡◌, ◌-◌, ◌≤◌};
 ghost use Rattle.rules.specs.Printing.{refused_text, printed, counts_printed};
 ghost use Rattle.table.specs.Table.{look_at};

@@ -10,7 +10,7 @@ use rules::{DiameterAnswer, HoleAnswer, MAX_TOOL, NOT_DECLARED, unit};
 use tools::Tools;
 
 // The place after some lines, and how many holes they have.
-#[derive(Drop)]
+#[derive(Clone, Copy)]
 pub(crate) struct Lines {
     pub(crate) end: usize,
     pub(crate) holes: usize,

@@ -22,7 +22,7 @@ use Rattle.rules.specs.declared.Revision.{Revision}
 use Rattle.rules.specs.Numbers.{max_line, max_lines, max_number, max_tool, max_places, is_digit, digits_of, Decimal, on_number, unsigned_of}
 use Rattle.rules.specs.Lines.{LF, CR, lines_of, is_printable}
 use Rattle.rules.specs.Kinds.{is_comment}
-use Rattle.rules.specs.Commands.{Form, g00, hit, g01, g02, g03, Formed, no_form, at_end, no_semicolon, comment_form, point_form, arc_form, tool_form, form_of, says, point_of, arc_of, in_range, point_in_range, arc_in_range, meaning_of, on_form, command_of, line_of}
+use Rattle.rules.specs.Commands.{Form, g00, hit, g01, g02, g03, Formed, no_form, at_end, no_semicolon, comment_form, point_form, arc_form, tool_form, form_of, says, point_of, arc_of, column_after, in_range, point_in_range, arc_in_range, meaning_of, on_form, command_of, line_of}
 use Rattle.rules.specs.Reading.{answer_in, command_in}
 use Rattle.rules.specs.Writing.{last_digits, width_of, fraction_text, number_text, radius_text, coordinate_text, tool_text, point_text, arc_text, spelt, line_text, longest_line}
 use Rattle.rules.specs.Ranges.{PointOk, ArcOk, CommandOk}
@@ -190,14 +190,14 @@ command_back rev Inch h = refl
 command_back rev (Declare t d) h = declare_back rev t d h
 command_back rev Percent h = refl
 command_back rev G05 h = refl
-command_back rev (G00 p) h = point_back _ p g00 G00 (λ x y. refl) h
+command_back rev (G00 p) h = point_back (column_after 0 (spelt (G00 p))) p g00 G00 (λ x y. refl) h
 command_back rev (Select t) h = select_back rev t h
-command_back rev (Hit p) h = point_back _ p hit Hit (λ x y. refl) h
+command_back rev (Hit p) h = point_back (column_after 0 (spelt (Hit p))) p hit Hit (λ x y. refl) h
 command_back rev M15 h = refl
 command_back rev M16 h = refl
-command_back rev (G01 p) h = point_back _ p g01 G01 (λ x y. refl) h
-command_back rev (G02 a) h = arc_back _ a g02 G02 (λ x y r. refl) h
-command_back rev (G03 a) h = arc_back _ a g03 G03 (λ x y r. refl) h
+command_back rev (G01 p) h = point_back (column_after 0 (spelt (G01 p))) p g01 G01 (λ x y. refl) h
+command_back rev (G02 a) h = arc_back (column_after 0 (spelt (G02 a))) a g02 G02 (λ x y r. refl) h
+command_back rev (G03 a) h = arc_back (column_after 0 (spelt (G03 a))) a g03 G03 (λ x y r. refl) h
 command_back rev M30 h = refl
 
 -- ---- a command's line

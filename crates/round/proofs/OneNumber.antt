@@ -48,9 +48,11 @@ digits_only {k = k} {n = n} w = same_digits w (last_digits_lem k n) (sym (mod-eq
 
 some_digit : {ds : List ℕ} {k n : ℕ} → Digits ds k n → NoSpareZero ds → 0 < k
 some_digit (digit _ _) s = omega arith
+some_digit no_digit s = elim s [ ]
 
 -- fewer digits do not hold the number
 fewest : {ds : List ℕ} {k n j : ℕ} → Digits ds k n → NoSpareZero ds → 0 < j → n < 10 ^ j → k ≤ j
+fewest no_digit s h g = elim s [ ]
 fewest (digit _ no_digit) alone h g = h
 fewest (digit {d = zero} _ _) (first z) h g = absurd (z refl)
 fewest {j = j} (digit {d = suc d} {k = k} _ _) (first z) h g = go (dec_lt k j)
@@ -91,7 +93,9 @@ one_more_zero : (n k : ℕ) → n * 10 ^ suc k ≡ n * 10 ^ k * 10
 one_more_zero n k = ap (λ (x : ℕ). n * x) (pow-suc 10 k) ∙ sym (mul_assoc n (10 ^ k) 10)
 
 last_digit : {fs : List ℕ} {j m : ℕ} → Digits fs j m → NoTrailingZero fs → m % 10 ≡ 0 → ⊥
+last_digit no_digit t e = elim t [ ]
 last_digit (digit h no_digit) (last z) e = z (omega arith)
+last_digit (digit h no_digit) (more z) e = elim z [ ]
 last_digit (digit {d = d} _ (digit {k = k} h w)) (more z) e = last_digit (digit h w) z (omega (arith, one_more_zero d k))
 
 -- two numbers that do not end in 0 are the same with zeros behind them only where these are as many
@@ -179,6 +183,7 @@ radius_only {v = v} {d = d} h w = text_only h w ∙ sym (radius_text_lem d v (fe
 
 some_decimal : {fs : List ℕ} {j m : ℕ} → Digits fs j m → NoTrailingZero fs → 0 < j
 some_decimal (digit _ _) t = omega arith
+some_decimal no_digit t = elim t [ ]
 
 same_places : {fs : List ℕ} {j m : ℕ} → Digits fs j m → NoTrailingZero fs → j ≤ max_places → j ≡ places_of (m * place_of j)
 same_places {j = j} {m = m} u t most = go (places_of f) (places_is f) (places_end f)

@@ -1,1 +1,2 @@
 // Laws alone: what is written reads back to the same rows. No code.
+#![tactic(auto)]

@@ -1,4 +1,6 @@
 // One row in lent numbers: which numbers a row may have, and the row that they are.
+#![tactic(auto)]
+
 ghost use Rattle.std.specs.Prelude.{◌≡◌, ◌&&◌, ◌+◌, ◌<◌, length};
 ghost use Rattle.rules.specs.Kinds as Kinds;
 ghost use Rattle.rules.specs.Rows as R;

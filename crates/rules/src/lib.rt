@@ -1,5 +1,7 @@
 // The things that document 01 speaks of, as types, with its sizes and refusals by name. What they mean stands in specs/,
 // a file for each section.
+#![tactic(auto)]
+
 pub mod kind;
 pub mod motion;
 pub mod phase;
@@ -130,14 +132,14 @@ pub const BAD_TABLE: Refusal = Refusal {
 };
 
 /// The revision of XNC by whose rule a line is read. It decides how a declaration is written, and nothing else.
-#[derive(Drop)]
+#[derive(Clone, Copy)]
 pub enum Revision {
     Rev2019,
     Rev2021,
 }
 
 /// One kind together with the numbers that kind carries.
-#[derive(Drop)]
+#[derive(Clone, Copy)]
 pub enum Command {
     Comment,
     M48,
@@ -158,7 +160,7 @@ pub enum Command {
 }
 
 /// What a line leaves for the next. It starts all zero.
-#[derive(Drop)]
+#[derive(Clone, Copy)]
 pub struct State {
     pub phase: u32,
     pub unit: u32,
@@ -169,49 +171,49 @@ pub struct State {
 }
 
 /// Why something is refused and, for 4 and 7, in which column of its line; columns count from 1. Callers hand it upward whole.
-#[derive(Drop)]
+#[derive(Clone, Copy)]
 pub struct Refusal {
     pub number: u32,
     pub column: usize,
 }
 
 /// The state after a command, or why the command may not come here.
-#[derive(Drop)]
+#[derive(Clone, Copy)]
 pub enum Next {
     To(State),
     No(Refusal),
 }
 
 /// What a line's bytes say: the command, where the refusal's number is 0.
-#[derive(Drop)]
+#[derive(Clone, Copy)]
 pub struct LineAnswer {
     pub refusal: Refusal,
     pub command: Command,
 }
 
 /// A row's lent numbers looked at: a row, that is a command and the state after it, or numbers that no row has.
-#[derive(Drop)]
+#[derive(Clone, Copy)]
 pub enum Looked {
     Holds(Command, State),
     Bad,
 }
 
 /// The state before a line, or that the row before it fails its test.
-#[derive(Drop)]
+#[derive(Clone, Copy)]
 pub enum Before {
     From(State),
     Bad,
 }
 
 /// What a command declares for a tool.
-#[derive(Drop)]
+#[derive(Clone, Copy)]
 pub enum Declared {
     Diameter(u32),
     Other,
 }
 
 /// What a hit or a rout takes out of the board. The kind is the command's.
-#[derive(Drop)]
+#[derive(Clone, Copy)]
 pub struct Hole {
     pub kind: u32,
     pub tool: u32,
@@ -222,14 +224,14 @@ pub struct Hole {
 
 /// Reading, editing, writing and how often a tool is used: the count (lines, the meeting line, bytes, holes), or the refusal and
 /// its line.
-#[derive(Drop)]
+#[derive(Clone, Copy)]
 pub enum Answer {
     Done(usize),
     Refused(Refusal, usize),
 }
 
 /// A way of making holes: the first and the last of its kinds.
-#[derive(Drop)]
+#[derive(Clone, Copy)]
 pub struct Way {
     pub first: u32,
     pub last: u32,
@@ -246,21 +248,21 @@ pub const ROUTS: Way = Way {
 };
 
 /// How many hits and how many routs each tool makes, tool 1 first.
-#[derive(Drop)]
+#[derive(Clone, Copy)]
 pub struct Counts {
     pub hits: [u32; TOOLS],
     pub routs: [u32; TOOLS],
 }
 
 /// What reading or editing answers, and the counts that go with the table afterwards.
-#[derive(Drop)]
+#[derive(Clone, Copy)]
 pub struct Counted {
     pub answer: Answer,
     pub counts: Counts,
 }
 
 /// The question for a line's hole.
-#[derive(Drop)]
+#[derive(Clone, Copy)]
 pub enum HoleAnswer {
     Makes(Hole),
     Nothing,
@@ -268,7 +270,7 @@ pub enum HoleAnswer {
 }
 
 /// The question for a tool's diameter.
-#[derive(Drop)]
+#[derive(Clone, Copy)]
 pub enum DiameterAnswer {
     Is(u32),
     Refused(Refusal, usize),

@@ -27,14 +27,14 @@ module _ {L C S : Type 0} {Reads : ℕ → L → C → Type 0} {Takes : S → C 
   pub chain_take : {p : S} {i : ℕ} {ls : List L} {rs : List (Row C S)} (m : ℕ) → Chain Reads Takes p i ls rs → Chain Reads Takes p i (take m ls) (take m rs)
   chain_take zero h = nil
   chain_take (suc m) nil = nil
-  chain_take (suc m) (link e f h) = link e f (chain_take m h)
+  chain_take {p = p} (suc m) (link {r = r} e f h) = link e f (chain_take {p = r.state} m h)
 
   pub chain_drop : {p : S} {i : ℕ} {ls : List L} {rs : List (Row C S)} (m : ℕ) → Chain Reads Takes p i ls rs → m ≤ length ls
       → Chain Reads Takes (state_after p rs m) (i + m) (drop m ls) (drop m rs)
   unfolding last_of
   chain_drop {i = i} zero h b = rw (add-zero i) h
   chain_drop (suc m) nil b = absurd (omega arith)
-  chain_drop (suc m) (link {i = i} e f h) b = let n : i + 1 + m ≡ i + suc m = omega arith in rw n at (chain_drop m h (omega arith))
+  chain_drop {p = p} (suc m) (link {i = i} {r = r} e f h) b = let n : i + 1 + m ≡ i + suc m = omega arith in rw n at (chain_drop {p = r.state} m h (omega arith))
 
   -- the rows by themselves
   pub chain_follows : {p : S} {i : ℕ} {ls : List L} {rs : List (Row C S)} → Chain Reads Takes p i ls rs → Follows Takes p i rs
@@ -59,11 +59,11 @@ module _ {C S : Type 0} {Takes : S → C → S → Type 0} where
 
   pub follows_first : {p : S} {i : ℕ} (xs ys : List (Row C S)) → Follows Takes p i (xs ++ ys) → Follows Takes p i xs
   follows_first [] ys g = nil
-  follows_first (x ∷ xs) ys g = link refl (follows_head g) (follows_first xs ys (follows_tail g))
+  follows_first {p = p} (x ∷ xs) ys g = link refl (follows_head g) (follows_first {p = x.state} xs ys (follows_tail g))
 
   pub follows_rest : {p : S} {i : ℕ} (xs ys : List (Row C S)) → Follows Takes p i (xs ++ ys) → Follows Takes (last_of p xs) (i + length xs) ys
   unfolding last_of
   follows_rest {i = i} [] ys g = rw (add-zero i) g
-  follows_rest {i = i} (x ∷ xs) ys g =
+  follows_rest {p = p} {i = i} (x ∷ xs) ys g =
       let n : i + 1 + length xs ≡ i + suc (length xs) = omega arith in
-      rw n at (follows_rest xs ys (follows_tail g))
+      rw n at (follows_rest {p = x.state} xs ys (follows_tail g))

@@ -5,7 +5,7 @@ ghost use Rattle.show.specs.Arguments.{named_by};
 use rules::Revision;
 
 /// The revision that a program reads by, or that its arguments name none.
-#[derive(Drop)]
+#[derive(Clone, Copy)]
 pub enum Chosen {
     By(Revision),
     Nothing,

@@ -1,4 +1,6 @@
 // What the programs print and read: lines on standard output, each made by crate print; a file from standard input.
+#![tactic(auto)]
+
 pub mod arguments;
 
 ghost use Rattle.std.specs.Prelude.{length};
@@ -8,14 +10,14 @@ use print::LINE_ROOM;
 use rules::{Hole, Refusal};
 
 /// Standard input, as much of it as the block holds, or that it can't be read.
-#[derive(Drop)]
+#[derive(Clone, Copy)]
 pub enum Input {
     Bytes(usize),
     Failed,
 }
 
 /// A line of standard input: how many of its bytes the block holds, or that the line is too long, or can't be read.
-#[derive(Drop)]
+#[derive(Clone, Copy)]
 pub enum InputLine {
     Bytes(usize),
     TooLong,
@@ -23,7 +25,7 @@ pub enum InputLine {
 }
 
 // The next byte of standard input, or its end, or that it can't be read.
-#[derive(Drop)]
+#[derive(Clone, Copy)]
 enum Byte {
     Is(u8),
     End,

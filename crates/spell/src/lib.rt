@@ -1,5 +1,7 @@
 // A command's line as text: how long it is, and its bytes. Each function that writes does so from place `at` on, as crate
 // text has it, and hands back the place after its text.
+#![tactic(auto)]
+
 ghost use Rattle.std.specs.Prelude.{◌≡◌, ◌++◌, ◌≤◌, length};
 ghost use Rattle.lists.specs.Words.{bytes};
 ghost use Rattle.rules.specs.declared.Command.TheVariants.{Declare, Select};

@@ -1,4 +1,6 @@
 // A table in lent numbers, looked at. `i` counts the rows before a row: row i is line i + 1.
+#![tactic(auto)]
+
 ghost use Rattle.std.specs.Prelude.{◌≡◌, ◌-◌};
 ghost use Rattle.rules.specs.Rows as Rows;
 ghost use Rattle.rules.specs.Editing as Editing;

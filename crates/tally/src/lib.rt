@@ -1,5 +1,7 @@
 // One count for each tool, of hits and of routs, and the holes of rows added to them or taken away. Rows are handed in as their
 // numbers, of which nothing is tested: they were tested, or made, just before.
+#![tactic(auto)]
+
 ghost use Rattle.std.specs.Prelude.{◌≡◌, true, ◌+◌, ◌*◌, ◌≤◌, length};
 ghost use Rattle.rules.specs.Rows.{row_width};
 ghost use Rattle.rules.specs.Numbers.{max_tool};
@@ -12,7 +14,7 @@ use rules::{
 };
 
 /// Counts without some rows' holes; or, where they can't be counts of a table with those rows, as they were.
-#[derive(Drop)]
+#[derive(Clone, Copy)]
 pub struct Taken {
     pub fits: bool,
     pub counts: Counts,

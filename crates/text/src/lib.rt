@@ -1,6 +1,8 @@
 // Text at a place of lent bytes: words, digits, whole numbers. Each function writes from place `at` on,
 // as much of its text as there is room for, and hands back the place after what it wrote; so texts written one after another
 // are one text.
+#![tactic(auto)]
+
 mod digits;
 mod parts;
 mod whole;

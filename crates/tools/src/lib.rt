@@ -1,9 +1,11 @@
 // The declared set: tool t is bit t mod 25 of word t div 25.
+#![tactic(auto)]
+
 ghost use Rattle.std.specs.Prelude.{◌≡◌, ◌<◌, ◌^◌};
 ghost use Rattle.tools.specs.Set as D;
 
 /// The declared tools, in four masked words: tool t is bit t mod 25 of word t div 25.
-#[derive(Drop)]
+#[derive(Clone, Copy)]
 pub struct Tools {
     pub a: u32,
     pub b: u32,

@@ -1,4 +1,6 @@
 // The writer: text in lent bytes, each byte straight at its place.
+#![tactic(auto)]
+
 ghost use Rattle.std.specs.Prelude.{◌≡◌, ◌*◌, ◌≤◌, length};
 ghost use Rattle.lists.specs.Put.{put_in};
 ghost use Rattle.rules.specs.Numbers.{max_lines};

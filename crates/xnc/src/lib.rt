@@ -1,5 +1,7 @@
 // The door for C and Rust: numbers and slices only. An answer is its number in document 01 times 2^48, plus its column times 2^32, plus the
 // line of the refusal or, where the number is 0, the count.
+#![tactic(auto)]
+
 ghost use Rattle.std.specs.Prelude.{◌≡◌, ◌+◌, ◌≤◌, length, take, drop};
 ghost use Rattle.lists.specs.Put.{put_at};
 ghost use Rattle.rules.specs.Numbers.{max_tool};
