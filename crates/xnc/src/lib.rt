@@ -114,8 +114,7 @@ fn room_for(numbers: usize, counts: usize) -> usize
 }
 
 /// See include/xnc.h.
-#[unsafe(no_mangle)]
-pub extern "C" fn xnc_read(file: &[u8], revision: u32, table: &mut [i32], counts: &mut [u32]) -> u64
+pub fn xnc_read(file: &[u8], revision: u32, table: &mut [i32], counts: &mut [u32]) -> u64
     ensures { ReadDoor revision file.now table.old counts.old result table.new counts.new }
 {
     let room = room_for(table.len(), counts.len());
@@ -142,8 +141,7 @@ fn pack_without_block(answer: Answer) -> u64
 }
 
 /// See include/xnc.h.
-#[unsafe(no_mangle)]
-pub extern "C" fn xnc_edit(
+pub fn xnc_edit(
     table: &mut [i32],
     n: usize,
     line: usize,
@@ -186,16 +184,14 @@ fn count_at(block: &[u32], at: usize, tool: u32) -> u64
 }
 
 /// See include/xnc.h.
-#[unsafe(no_mangle)]
-pub extern "C" fn xnc_hits(counts: &[u32], tool: u32) -> u64
+pub fn xnc_hits(counts: &[u32], tool: u32) -> u64
     ensures { result ≡ packed (last_block counts.now (hits_answer (counts_in counts.now) tool)) }
 {
     count_at(counts, 0, tool)
 }
 
 /// See include/xnc.h.
-#[unsafe(no_mangle)]
-pub extern "C" fn xnc_routs(counts: &[u32], tool: u32) -> u64
+pub fn xnc_routs(counts: &[u32], tool: u32) -> u64
     ensures { result ≡ packed (last_block counts.now (routs_answer (counts_in counts.now) tool)) }
 {
     count_at(counts, TOOLS, tool)
@@ -225,8 +221,7 @@ fn put_hole(block: &mut [i32], h: Hole)
 }
 
 /// See include/xnc.h.
-#[unsafe(no_mangle)]
-pub extern "C" fn xnc_hole(table: &[i32], n: usize, line: usize, hole: &mut [i32]) -> u64
+pub fn xnc_hole(table: &[i32], n: usize, line: usize, hole: &mut [i32]) -> u64
     ensures { (result ≡ hole_packed (hole_answer table.now n line) hole.old) × (hole.new ≡ hole_leaves (hole_answer table.now n line) hole.old) }
 {
     match query::hole(table, n, line) {
@@ -248,8 +243,7 @@ pub extern "C" fn xnc_hole(table: &[i32], n: usize, line: usize, hole: &mut [i32
 }
 
 /// See include/xnc.h.
-#[unsafe(no_mangle)]
-pub extern "C" fn xnc_write(table: &[i32], n: usize, text: &mut [u8]) -> u64
+pub fn xnc_write(table: &[i32], n: usize, text: &mut [u8]) -> u64
     ensures { (result ≡ packed (write_answer table.now n text.old)) × (text.new ≡ write_leaves table.now n text.old) }
 {
     pack(writer::write(table, n, text))
