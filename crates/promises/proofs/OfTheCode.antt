@@ -39,7 +39,7 @@ use Rattle.demands.proofs.CountsExactly.{edit_refused_exactly}
 use Rattle.demands.proofs.CountsOwn.{counts_own}
 use Rattle.demands.proofs.Undo.{undo, undo_text, commute}
 use Rattle.promises.specs.Calls.{ReadCall, EditCall, HitsCall, RoutsCall, HoleCall, WriteCall}
-use Rattle.promises.specs.OfTheCode.{ReadsFile, OfTheCode}
+use Rattle.promises.specs.OfTheCode.{ReadsFile, OfTheCode, UndoOfTheCode}
 
 -- ---- what the contracts say of a call
 
@@ -205,12 +205,16 @@ of_the_code = record {
   written_read_back = read_back;
   edited_as_read_afresh = as_afresh;
   edit_own = edited_own;
+  asked_hits = λ table n rs g tool a b answer c. hits_says c ∙ counts_own.hits table n rs g tool a b;
+  asked_routs = λ table n rs g tool a b answer c. routs_says c ∙ counts_own.routs table n rs g tool a b;
+}
+
+pub undo_of_the_code : UndoOfTheCode
+undo_of_the_code = record {
   tried_and_put_back = own_line_back;
   edit_undone = put_back;
   edits_commute = λ table n rs g k j ne l b rev p q r s. (
     commute.same_table rev table n rs g k j ne l b (accepted_edit p) (accepted_edit q) (accepted_edit r) (accepted_edit s),
     commute.same_counts rev table n rs g k j ne l b (accepted_edit p) (accepted_edit q) (accepted_edit r) (accepted_edit s),
   );
-  asked_hits = λ table n rs g tool a b answer c. hits_says c ∙ counts_own.hits table n rs g tool a b;
-  asked_routs = λ table n rs g tool a b answer c. routs_says c ∙ counts_own.routs table n rs g tool a b;
 }

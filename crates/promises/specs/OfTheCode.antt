@@ -80,6 +80,14 @@ pub record OfTheCode : Type 0 where
   -- an accepted edit from a good table's own counts leaves a good table, and its own counts
   pub edit_own : (table : List ℤ) (n : ℕ) (rs : Rows) → Good table n rs → (line : ℕ) (text : List ℕ) (rev : Revision) (m : ℕ) (counts_remaining : Counts) (left : List ℤ)
       → EditCall table n line text rev (counts_of rs) (Done m) counts_remaining left → (ss : Rows) × (Good left n ss × (counts_remaining ≡ counts_of ss))
+  -- the question, asked from them, is counting the table's holes afresh
+  pub asked_hits : (table : List ℤ) (n : ℕ) (rs : Rows) → Good table n rs → (tool : ℕ) → 1 ≤ tool → tool ≤ max_tool → (answer : Answer)
+      → HitsCall (counts_of rs) tool answer → answer ≡ Done (afresh hits tool table n n)
+  pub asked_routs : (table : List ℤ) (n : ℕ) (rs : Rows) → Good table n rs → (tool : ℕ) → 1 ≤ tool → tool ≤ max_tool → (answer : Answer)
+      → RoutsCall (counts_of rs) tool answer → answer ≡ Done (afresh routs tool table n n)
+
+-- a line that was tried is put back, and two changes come in either order
+pub record UndoOfTheCode : Type 0 where
   -- a file is read, a line is tried, and the file's own line is put back
   pub tried_and_put_back : (file : List ℕ) (rev : Revision) (lent : List ℤ) (n : ℕ) (counts : Counts) (table : List ℤ)
       → ReadCall file rev lent (Done n) counts table → (k : ℕ) (w : LineOf file k) (text : List ℕ) (m : ℕ) (counts_remaining : Counts) (left : List ℤ)
@@ -96,8 +104,3 @@ pub record OfTheCode : Type 0 where
       → {m i i' m' : ℕ} {c d e f : Counts} {u v w x : List ℤ}
       → EditCall table n k l rev (counts_of rs) (Done m) c u → EditCall u n j b rev c (Done i) d v
       → EditCall table n j b rev (counts_of rs) (Done i') e w → EditCall w n k l rev e (Done m') f x → (v ≡ x) × (d ≡ f)
-  -- the question, asked from a table's own counts, is counting its holes afresh
-  pub asked_hits : (table : List ℤ) (n : ℕ) (rs : Rows) → Good table n rs → (tool : ℕ) → 1 ≤ tool → tool ≤ max_tool → (answer : Answer)
-      → HitsCall (counts_of rs) tool answer → answer ≡ Done (afresh hits tool table n n)
-  pub asked_routs : (table : List ℤ) (n : ℕ) (rs : Rows) → Good table n rs → (tool : ℕ) → 1 ≤ tool → tool ≤ max_tool → (answer : Answer)
-      → RoutsCall (counts_of rs) tool answer → answer ≡ Done (afresh routs tool table n n)
