@@ -86,10 +86,10 @@ m_two : (rev : Revision) (a b : ℕ) → command_of rev (code "M" ∷ a ∷ b �
 unfolding command_of form_of starts_with code_of meaning_of
 m_two rev a b =
     simp (and-true, and-false)
-    (code_by _ (eqb a (code "4") && eqb b (code "8")) m48 D.M48 _ _ refl
-    (code_by _ (eqb a (code "1") && eqb b (code "5")) m15 D.M15 _ _ refl
-    (code_by _ (eqb a (code "1") && eqb b (code "6")) m16 D.M16 _ _ refl
-    (code_by _ (eqb a (code "3") && eqb b (code "0")) m30 D.M30 no_form M.None refl refl))))
+    (code_by (column_after 0 (code "M" ∷ a ∷ b ∷ [])) (eqb a (code "4") && eqb b (code "8")) m48 D.M48 _ _ refl
+    (code_by (column_after 0 (code "M" ∷ a ∷ b ∷ [])) (eqb a (code "1") && eqb b (code "5")) m15 D.M15 _ _ refl
+    (code_by (column_after 0 (code "M" ∷ a ∷ b ∷ [])) (eqb a (code "1") && eqb b (code "6")) m16 D.M16 _ _ refl
+    (code_by (column_after 0 (code "M" ∷ a ∷ b ∷ [])) (eqb a (code "3") && eqb b (code "0")) m30 D.M30 no_form M.None refl refl))))
 
 pub m_code : (rev : Revision) (s : List ℕ) → length s ≡ 3 → {r v : CodeRead} → r ≡ code_of (get_or s 1 0) (get_or s 2 0) → r ≡ v → code_answer v ≡ command_of rev (code "M" ∷ drop 1 s)
 m_code rev [] h e g = absurd (omega arith)

@@ -1,0 +1,8 @@
+-- The letter and two digits.
+use Rattle.rules.specs.Writing.{tool_text}
+use Rattle.text.proofs.Wrote.{wrote_more}
+use Rattle.spell.proofs.put_tool.Goals as goal
+
+pub returns : goal.returns
+unfolding tool_text
+returns c = search wrote_more
