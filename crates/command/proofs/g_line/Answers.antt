@@ -1,4 +1,9 @@
 -- G0 and a digit, which tells the kind.
+use Prim.Native.Char.{code}
+use Prim.Native.Nat.{ℕ}
+use Rattle.rules.specs.Commands.{column_after}
+use lib.ListN.{drop}
+use mathlib.Core.List.{◌∷◌}
 use mathlib.Core.Path.{refl, ◌∙◌}
 use mathlib.Core.List.{[]}
 use native.Mathlib.Omega.{arith}
@@ -38,7 +43,7 @@ returns-in-51 c rev =
 pub returns-in-53 : goal.returns-in-53
 unfolding command_of form_of starts_with meaning_of
 returns-in-53 c rev =
-    c.word_line.ensures ∙ word_is _ _ [] g05 K.G05 refl ∙ g_is rev c.args.s.now c.if-s-lt3.false c.if-s-ne48.false
+    c.word_line.ensures ∙ word_is (column_after 0 (◌∷◌ (code "G") (◌∷◌ 48 (◌∷◌ 53 (drop {A = ℕ} 3 c.args.s.now))))) _ [] g05 K.G05 refl ∙ g_is rev c.args.s.now c.if-s-lt3.false c.if-s-ne48.false
     c.in-53.is
 
 pub returns-in_default : goal.returns-in_default

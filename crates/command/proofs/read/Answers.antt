@@ -1,4 +1,8 @@
 -- The first byte tells which forms are left.
+use Prim.Native.Nat.{ℕ}
+use Rattle.rules.specs.Commands.{column_after}
+use lib.ListN.{drop}
+use mathlib.Core.List.{◌∷◌}
 use mathlib.Core.Path.{refl, ◌∙◌}
 use mathlib.Core.List.{[]}
 use Rattle.lists.specs.Words.{bytes, starts_with}
@@ -37,7 +41,7 @@ pub returns-in-37 : goal.returns-in-37
 unfolding command_of form_of starts_with meaning_of
 returns-in-37 c =
     let a = c.args in
-    c.word_line.ensures ∙ word_is _ _ [] percent K.Percent refl ∙ first_is a.revision a.s.now c.if-s-eq0.false c.in-37.is
+    c.word_line.ensures ∙ word_is (column_after 0 (◌∷◌ 37 (drop {A = ℕ} 1 c.args.s.now))) _ [] percent K.Percent refl ∙ first_is a.revision a.s.now c.if-s-eq0.false c.in-37.is
 
 pub returns-in-59 : goal.returns-in-59
 returns-in-59 c =
@@ -48,7 +52,7 @@ pub returns-in-73 : goal.returns-in-73
 unfolding command_of form_of starts_with meaning_of
 returns-in-73 c =
     let a = c.args in
-    c.word_line-in-73.ensures ∙ word_is _ _ (bytes "NCH") inch K.Inch refl ∙ first_is a.revision a.s.now c.if-s-eq0.false c.in-73.is
+    c.word_line-in-73.ensures ∙ word_is (column_after 0 (◌∷◌ 73 (drop {A = ℕ} 1 c.args.s.now))) _ (bytes "NCH") inch K.Inch refl ∙ first_is a.revision a.s.now c.if-s-eq0.false c.in-73.is
 
 pub returns-in_default : goal.returns-in_default
 returns-in_default c =

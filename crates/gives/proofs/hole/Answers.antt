@@ -1,4 +1,5 @@
 -- An arm for each command that makes a hole; the last takes the kinds that make none.
+use borrow.Enum.Refused.{opened}
 use mathlib.Core.Path.{ap}
 use Rattle.rules.specs.Holes.{hole_of}
 use Rattle.rules.specs.Answers.{hole_said}
@@ -22,4 +23,4 @@ unfolding hole_of
 returns-in-G03 c = rw c.in-G03.is (ap hole_said c.made-in-G03.ensures)
 
 pub returns-in_default : goal.returns-in_default
-returns-in_default c = ap hole_said (no_hole _ _ _ c.in_default.in_default-own.keys5)
+returns-in_default c = ap hole_said (no_hole _ _ _ (opened c.in_default.in_default-own.keys5))

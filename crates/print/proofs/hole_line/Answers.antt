@@ -11,13 +11,11 @@ use Rattle.print.proofs.Lines.{nothing_put, line_put, line_length, hole_short}
 use borrow.Author.Rules.{rules}
 use Rattle.print.proofs.hole_line.Goals as goal
 
-fields_short : (s : tie.Start) → length (tabbed (hole_fields s.args.hole)) ≤ 72
-fields_short s = search (rules, hole_short)
-
 pub returns-then-block-lt-LINE_ROOM : goal.returns-then-block-lt-LINE_ROOM
 returns-then-block-lt-LINE_ROOM c = nothing_put _ _ _ (lt-leb line_room _ c.if-block-lt-LINE_ROOM.true)
 
 pub returns : goal.returns
 returns c =
+    let short : length (tabbed (hole_fields c.args.hole)) ≤ 72 = search (rules, hole_short) in
     line_put _ (le-leb line_room _ c.if-block-lt-LINE_ROOM.false) c.put_hole_line.ensures
-    (omega (arith, line_length (decimal c.args.line) (hole_fields c.args.hole), (decimal_range c.args.line).1, fields_short c))
+    (omega (arith, line_length (decimal c.args.line) (hole_fields c.args.hole), (decimal_range c.args.line).1, short))

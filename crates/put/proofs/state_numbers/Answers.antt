@@ -9,15 +9,15 @@ pub returns : goal.returns
 unfolding state_numbers capped_state
 returns c =
     let g = c.struct_told-1.given in
-    back∷ _ c.signed.type-inv
+    back∷ _ c.signed.type_inv
     c.signed.ensures
-    (back∷ _ c.signed-2.type-inv
+    (back∷ _ c.signed-2.type_inv
     c.signed-2.ensures
-    (back∷ _ c.signed-3.type-inv c.signed-3.ensures
-    (back∷ _ c.signed-4.type-inv c.signed-4.ensures
+    (back∷ _ c.signed-3.type_inv c.signed-3.ensures
+    (back∷ _ c.signed-4.type_inv c.signed-4.ensures
     (back∷ _ g.0.1 refl
     (back∷ _ g.1.0.1 refl
-    (back∷ _ c.signed-5.type-inv c.signed-5.ensures
-    (back∷ _ c.signed-6.type-inv c.signed-6.ensures
-    (back∷ _ c.signed-7.type-inv c.signed-7.ensures
-    (back∷ _ c.signed-8.type-inv c.signed-8.ensures refl)))))))))
+    (back∷ _ c.signed-5.type_inv c.signed-5.ensures
+    (back∷ _ c.signed-6.type_inv c.signed-6.ensures
+    (back∷ _ c.signed-7.type_inv c.signed-7.ensures
+    (back∷ _ c.signed-8.type_inv c.signed-8.ensures refl)))))))))

@@ -24,10 +24,10 @@ loop-tool-preserved c =
           (counts_turn c.args.table.now c.args.n c.args.declared c.args.counts l.tool c.diameter_of-answer.ensures c.put_tool_counts-end.ensures),
     )
 
-pub shape_of-text : goal.shape_of-text
-shape_of-text c = wrote_length (returns c)
-
 pub returns : goal.returns
 returns c =
     let l = c.loop-tool in
     rest_end _ l.invariant.2 (tools_over (counts_of_tool c.args.table.now c.args.n c.args.declared c.args.counts) l.tool c.loop-tool-test.false)
+
+pub shape_of-text : goal.shape_of-text
+shape_of-text c = wrote_length (returns c)

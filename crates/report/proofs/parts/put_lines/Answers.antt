@@ -33,12 +33,12 @@ loop-i-preserved c =
       rest_turn _ l.invariant.3 _ (lines_next c.args.table.now c.args.n l.i i) p.0,
     )
 
-pub shape_of-text : goal.shape_of-text
-shape_of-text c = wrote_length (returns c).0
-
 pub returns : goal.returns
 returns c =
     let l = c.loop-i in (
       rest_end _ l.invariant.3 (lines_over c.args.table.now c.args.n l.i c.loop-i-test.false),
       omega (arith, l.invariant.2, holes_over c.args.table.now c.args.n l.i c.loop-i-test.false),
     )
+
+pub shape_of-text : goal.shape_of-text
+shape_of-text c = wrote_length (returns c).0
