@@ -1,6 +1,6 @@
 -- A list that begins with a word is the word and then the rest.
 use mathlib.Core.Path.{◌≡◌, refl, ap₂, sym, subst}
-use mathlib.Core.Bool.{true, false, false≢true}
+use mathlib.Core.Bool.{true, false≢true}
 use mathlib.Core.List.{List, [], ◌∷◌, ◌++◌}
 use Prim.Native.Nat.{ℕ}
 use borrow.Author.Tests.{eqb-true}

@@ -1,6 +1,6 @@
 -- Document 01, "A row": its numbers, which of them a row may have, and when a table is good. By document 02's #104 a row has a
 -- sixteenth number, the decimals written in the radius. It is one of the command's, and stands last.
-use Rattle.std.specs.Prelude.{◌≡◌, Bool, true, false, cond, ◌&&◌, List, [], ◌∷◌, ◌++◌, ℕ, zero, suc, ◌+◌, ◌*◌, ◌/◌, ◌%◌, ◌≤◌, leb, eqb, ℤ, pos, negsuc, nat_abs, length, get_or, take, drop}
+use Rattle.std.specs.Prelude.{◌≡◌, Bool, true, false, cond, ◌&&◌, List, [], ◌∷◌, ◌++◌, ℕ, zero, suc, ◌*◌, ◌/◌, ◌%◌, ◌≤◌, leb, eqb, ℤ, pos, negsuc, nat_abs, length, get_or, take, drop}
 use Rattle.runs.specs.Machine as M
 use Rattle.runs.specs.Machine.{Entry, holds, bad, all_hold, last_of, Follows, StepBy}
 use Rattle.points.specs.declared.Point.{Point}

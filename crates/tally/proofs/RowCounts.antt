@@ -1,6 +1,6 @@
 -- Counts with and without the numbers of rows: a file's rows counted, and new rows in the place of old ones.
-use mathlib.Core.Path.{◌≡◌, refl, sym, ap, ap₂, ◌∙◌}
-use mathlib.Core.Bool.{Bool, true, false, ◌&&◌, cond, false≢true}
+use mathlib.Core.Path.{◌≡◌, refl, ap, ap₂, ◌∙◌}
+use mathlib.Core.Bool.{Bool, true, false, ◌&&◌}
 use mathlib.Core.List.{List, []}
 use Prim.Native.Nat.{ℕ, ◌+◌, ◌-◌, ◌≤◌}
 use native.Mathlib.Omega.{arith}
@@ -16,7 +16,6 @@ use Rattle.rules.specs.Reading.{Rows}
 use Rattle.rules.specs.Counting.{each_tool, of_tool, max_count, hits, routs, how_many, counts_of, no_counts, way_fits, counts_fit, replaced, counts_after}
 use Rattle.laws.proofs.EachTool.{of_each, each_same, each_says, all_same}
 use Rattle.laws.proofs.HowMany.{how_many-few}
-use Rattle.tally.specs.declared.Taken.{Taken}
 use Rattle.tally.specs.Standing.{standing, max_counted, raised_by, more, with_rows, fewer, holds_rows, holds_all, without_rows}
 use Rattle.tally.proofs.Standing.{standing_rows, raised_all}
 

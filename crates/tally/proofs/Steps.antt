@@ -16,7 +16,7 @@ use Rattle.rules.specs.Numbers.{max_tool}
 use Rattle.rules.specs.Rows.{row_width, field_n}
 use Rattle.rules.specs.Counting.{each_tool, of_tool, for_each_tool, max_count}
 use Rattle.laws.proofs.EachTool.{length_each, is_each, of_each, set_each, each_so, each_not}
-use Rattle.tally.specs.Standing.{tool_in, max_counted, raised, raised_by, one_more, has_one, one_fewer, standing_to, standing, larger, none_over, none_under, Takes}
+use Rattle.tally.specs.Standing.{tool_in, raised, raised_by, one_more, has_one, one_fewer, standing_to, standing, larger, none_over, none_under, Takes}
 
 -- ---- the tool of a row
 
