@@ -7,26 +7,28 @@ use report::TEXT_ROOM;
 use rules::{MAX_FILE, Revision, TABLE_ROOM};
 use show::Input;
 use show::arguments::Chosen;
+use std::io::{Print, Read};
 
-fn print_report(file: &[u8], revision: Revision) {
+fn print_report(output: &impl Print, file: &[u8], revision: Revision) {
     let mut table = [0i32; TABLE_ROOM];
     let mut text = [0u8; TEXT_ROOM];
     let length = report::counts(file, revision, &mut table, &mut text);
-    show::word(&text[..length]);
+    show::word(output, &text[..length]);
 }
 
-fn read_file(revision: Revision) {
+fn read_file(input: &mut impl Read, output: &impl Print, errors: &impl Print, revision: Revision) {
     // One byte more than a file may have, so that a longer one is seen.
     let mut file = [0u8; MAX_FILE + 1];
-    match show::read_input(&mut file) {
-        Input::Bytes(got) => print_report(&file[..got], revision),
+    match show::read_input(input, errors, &mut file) {
+        Input::Bytes(got) => print_report(output, &file[..got], revision),
         Input::Failed => {}
     }
 }
 
-fn main() {
-    match show::arguments::chosen_revision(b"usage: counts [2019|2021] <FILE\n") {
-        Chosen::By(revision) => read_file(revision),
+fn main(rt: HostRuntime) {
+    let errors = rt.stderr();
+    match show::arguments::chosen_revision(&rt, &errors, b"usage: counts [2019|2021] <FILE\n") {
+        Chosen::By(revision) => read_file(&mut rt.stdin(), &rt.stdout(), &errors, revision),
         Chosen::Nothing => {}
     }
 }

@@ -12,7 +12,9 @@ use rules::{
 };
 use show::arguments::Chosen;
 use show::{Input, InputLine};
+use std::io::{Print, Read};
 
+#[tactic(auto, unfolding(crate::specs::Moves::same_hole))]
 fn same_hole(a: Hole, b: Hole) -> bool
     ensures { result ≡ Moves.same_hole a b }
 {
@@ -51,40 +53,47 @@ fn differs(old: HoleAnswer, new: HoleAnswer) -> bool
     }
 }
 
-fn print_span(line: usize, meeting: usize) {
+fn print_span(output: &impl Print, line: usize, meeting: usize) {
     let fields = [line as u64, meeting as u64];
-    show::numbers(b"span", &fields);
+    show::numbers(output, b"span", &fields);
 }
 
 // A line's hole, if it makes one, behind the sign of the table it is in and a tab.
-fn print_hole(sign: &[u8], line: usize, answer: HoleAnswer) {
+fn print_hole(output: &impl Print, sign: &[u8], line: usize, answer: HoleAnswer) {
     if let HoleAnswer::Makes(hole) = answer {
-        show::word(sign);
-        show::hole(line, hole);
+        show::word(output, sign);
+        show::hole(output, line, hole);
     }
 }
 
 // The old and the new hole of a line where they differ, and whether they do.
-fn print_move(old: &[i32], new: &[i32], n: usize, line: usize) -> bool {
+fn print_move(output: &impl Print, old: &[i32], new: &[i32], n: usize, line: usize) -> bool {
     let before = query::hole(old, n, line);
     let after = query::hole(new, n, line);
     if differs(before, after) {
-        print_hole(b"-\t", line, before);
-        print_hole(b"+\t", line, after);
+        print_hole(output, b"-\t", line, before);
+        print_hole(output, b"+\t", line, after);
         return true;
     }
     false
 }
 
 // The holes that differ from a line to the meeting line, and how many lines have one.
-fn print_moves(old: &[i32], new: &[i32], n: usize, line: usize, meeting: usize) -> usize
+fn print_moves(
+    output: &impl Print,
+    old: &[i32],
+    new: &[i32],
+    n: usize,
+    line: usize,
+    meeting: usize,
+) -> usize
     requires { 1 ≤ line }
 {
     let mut count: usize = 0;
     let mut passed = line - 1;
     while passed < meeting {
         passed += 1;
-        if print_move(old, new, n, passed) {
+        if print_move(output, old, new, n, passed) {
             count += 1;
         }
     }
@@ -99,31 +108,39 @@ fn diameter(table: &[i32], n: usize, tool: u32) -> u32 {
     }
 }
 
-fn print_tool(old: &[i32], new: &[i32], n: usize, tool: u32) {
+fn print_tool(output: &impl Print, old: &[i32], new: &[i32], n: usize, tool: u32) {
     let before = diameter(old, n, tool);
     let after = diameter(new, n, tool);
     if before != after {
         let fields = [tool as u64, before as u64, after as u64];
-        show::numbers(b"tool", &fields);
+        show::numbers(output, b"tool", &fields);
     }
 }
 
 // The tools whose diameter differs, by number.
-fn print_tools(old: &[i32], new: &[i32], n: usize) {
+fn print_tools(output: &impl Print, old: &[i32], new: &[i32], n: usize) {
     let mut tool = 1;
     while tool <= MAX_TOOL {
-        print_tool(old, new, n, tool);
+        print_tool(output, old, new, n, tool);
         tool += 1;
     }
 }
 
-fn print_count(count: usize) {
+fn print_count(output: &impl Print, count: usize) {
     let fields = [count as u64];
-    show::numbers(b"moved", &fields);
+    show::numbers(output, b"moved", &fields);
 }
 
 // The edit goes into a copy, so that both tables can be asked.
-fn try_edit(old: &[i32], n: usize, line: usize, text: &[u8], revision: Revision, counts: Counts)
+fn try_edit(
+    output: &impl Print,
+    old: &[i32],
+    n: usize,
+    line: usize,
+    text: &[u8],
+    revision: Revision,
+    counts: Counts,
+)
     requires { 1 ≤ line }
 {
     let mut new = [0i32; TABLE_ROOM];
@@ -131,12 +148,12 @@ fn try_edit(old: &[i32], n: usize, line: usize, text: &[u8], revision: Revision,
     let edited = editor::edit(&mut new, n, line, text, revision, counts);
     let answer = edited.answer;
     match answer {
-        Answer::Refused(refusal, at) => show::refused(refusal, at),
+        Answer::Refused(refusal, at) => show::refused(output, refusal, at),
         Answer::Done(meeting) => {
-            print_span(line, meeting);
-            let count = print_moves(old, &new, n, line, meeting);
-            print_tools(old, &new, n);
-            print_count(count);
+            print_span(output, line, meeting);
+            let count = print_moves(output, old, &new, n, line, meeting);
+            print_tools(output, old, &new, n);
+            print_count(output, count);
         }
     }
 }
@@ -174,52 +191,74 @@ fn line_number(digits: &[u8]) -> usize {
     line
 }
 
-fn answer(old: &[i32], n: usize, first: &[u8], revision: Revision, counts: Counts) {
+fn answer(
+    output: &impl Print,
+    old: &[i32],
+    n: usize,
+    first: &[u8],
+    revision: Revision,
+    counts: Counts,
+) {
     let tab = find_tab(first);
     if tab < first.len() {
         let line = line_number(&first[..tab]);
         if 0 < line {
-            try_edit(old, n, line, &first[tab + 1..], revision, counts);
+            try_edit(output, old, n, line, &first[tab + 1..], revision, counts);
             return;
         }
     }
-    show::refused(NO_SUCH_LINE, 0);
+    show::refused(output, NO_SUCH_LINE, 0);
 }
 
-fn report(first: &[u8], file: &[u8], revision: Revision) {
+fn report(output: &impl Print, first: &[u8], file: &[u8], revision: Revision) {
     let mut old = [0i32; TABLE_ROOM];
     let read = reader::read(file, revision, &mut old);
     let told = read.answer;
     match told {
-        Answer::Refused(refusal, line) => show::refused(refusal, line),
-        Answer::Done(n) => answer(&old, n, first, revision, read.counts),
+        Answer::Refused(refusal, line) => show::refused(output, refusal, line),
+        Answer::Done(n) => answer(output, &old, n, first, revision, read.counts),
     }
 }
 
-fn read_file(first: &[u8], revision: Revision) {
+fn read_file(
+    input: &mut impl Read,
+    output: &impl Print,
+    errors: &impl Print,
+    first: &[u8],
+    revision: Revision,
+) {
     // One byte more than a file may have, so that a longer one is seen.
     let mut file = [0u8; MAX_FILE + 1];
-    match show::read_input(&mut file) {
-        Input::Bytes(got) => report(first, &file[..got], revision),
+    match show::read_input(input, errors, &mut file) {
+        Input::Bytes(got) => report(output, first, &file[..got], revision),
         Input::Failed => {}
     }
 }
 
-fn read_first(revision: Revision) {
+fn read_first(input: &mut impl Read, output: &impl Print, errors: &impl Print, revision: Revision) {
     // More than a number, a tab and the longest new line: what doesn't fit would be refused anyway.
     let mut first = [0u8; 1024];
-    match show::read_line(&mut first) {
-        InputLine::Bytes(got) => read_file(line::text_of(&first[..got]), revision),
-        InputLine::TooLong => show::refused(FILE_TOO_LONG, 0),
+    match show::read_line(input, errors, &mut first) {
+        InputLine::Bytes(got) => read_file(
+            input,
+            output,
+            errors,
+            line::text_of(&first[..got]),
+            revision,
+        ),
+        InputLine::TooLong => show::refused(output, FILE_TOO_LONG, 0),
         InputLine::Failed => {}
     }
 }
 
-fn main() {
+fn main(rt: HostRuntime) {
+    let errors = rt.stderr();
     match show::arguments::chosen_revision(
+        &rt,
+        &errors,
         b"usage: moves [2019|2021], and on standard input a line's number, a tab and its new text, then the file\n",
     ) {
-        Chosen::By(revision) => read_first(revision),
+        Chosen::By(revision) => read_first(&mut rt.stdin(), &rt.stdout(), &errors, revision),
         Chosen::Nothing => {}
     }
 }

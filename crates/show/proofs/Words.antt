@@ -14,15 +14,15 @@ use Rattle.show.specs.declared.arguments.Chosen.{Chosen}
 use Rattle.show.specs.declared.arguments.Chosen.TheVariants.{By, Nothing}
 use Rattle.show.specs.Arguments.{named_by}
 
-abbrev four_bytes : ℕ → ℕ → ℕ → ℕ → Chosen
-four_bytes a b c d =
+abbrev fourBytes : ℕ → ℕ → ℕ → ℕ → Chosen
+fourBytes a b c d =
     cond (eqb a (code "2") && (eqb b (code "0") && (eqb c (code "1") && (eqb d (code "9") && true)))) (By Rev2019)
     (cond (eqb a (code "2") && (eqb b (code "0") && (eqb c (code "2") && (eqb d (code "1") && true)))) (By Rev2021) Nothing)
 
 pub other_length : (s : List ℕ) → (length s ≡ 4 → ⊥) → Nothing ≡ named_by s
 other_length s h = rw (ne_eqb (length s) 4 h)
 
-four : (s : List ℕ) → length s ≡ 4 → four_bytes (get_or s 0 0) (get_or s 1 0) (get_or s 2 0) (get_or s 3 0) ≡ named_by s
+four : (s : List ℕ) → length s ≡ 4 → fourBytes (get_or s 0 0) (get_or s 1 0) (get_or s 2 0) (get_or s 3 0) ≡ named_by s
 unfolding starts_with
 four [] h = absurd (omega arith)
 four (a ∷ []) h = absurd (omega arith)
@@ -33,7 +33,7 @@ four (a ∷ b ∷ c ∷ d ∷ e ∷ l) h = absurd (omega arith)
 
 module _ (s : List ℕ) (h : length s ≡ 4) where
   -- what the four bytes give is what the word names
-  given : {r : Chosen} → r ≡ four_bytes (get_or s 0 0) (get_or s 1 0) (get_or s 2 0) (get_or s 3 0) → r ≡ named_by s
+  given : {r : Chosen} → r ≡ fourBytes (get_or s 0 0) (get_or s 1 0) (get_or s 2 0) (get_or s 3 0) → r ≡ named_by s
   given e = e ∙ four s h
 
   pub first_other : (get_or s 0 0 ≡ code "2" → ⊥) → Nothing ≡ named_by s

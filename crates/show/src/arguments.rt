@@ -3,6 +3,8 @@ ghost use Rattle.std.specs.Prelude.{◌≡◌};
 ghost use Rattle.show.specs.Arguments.{named_by};
 
 use rules::Revision;
+use std::env::{Env, FillError};
+use std::io::Print;
 
 /// The revision that a program reads by, or that its arguments name none.
 #[derive(Clone, Copy)]
@@ -10,8 +12,6 @@ pub enum Chosen {
     By(Revision),
     Nothing,
 }
-
-const STDERR: i32 = 2;
 
 // The revision that a word names.
 fn named_by(word: &[u8]) -> Chosen
@@ -39,25 +39,34 @@ fn named_by(word: &[u8]) -> Chosen
     }
 }
 
+// Whether there is an argument `i`. Argument 0 is the program's own name.
+fn is_given(arguments: &impl Env, i: usize) -> bool {
+    let mut first = [0u8; 1];
+    match arguments.arg(i, &mut first) {
+        Err(FillError::NotPresent) => false,
+        _ => true,
+    }
+}
+
 // The first argument. A longer one than the block holds is no word, and names nothing.
-fn first_named() -> Chosen {
+fn first_named(arguments: &impl Env) -> Chosen {
     let mut word = [0u8; 4];
-    let length = os::arg(1, &mut word);
-    named_by(&word[..length])
+    match arguments.arg(1, &mut word) {
+        Ok(length) => named_by(&word[..length]),
+        Err(_) => Chosen::Nothing,
+    }
 }
 
 /// The revision that the one argument names, 2021 where there is none. Any other arguments get the line of usage on standard error.
-pub fn chosen_revision(usage: &[u8]) -> Chosen {
-    // the program's own name is counted
-    let count = os::arg_count();
-    if count < 2 {
+pub fn chosen_revision(arguments: &impl Env, errors: &impl Print, usage: &[u8]) -> Chosen {
+    if !is_given(arguments, 1) {
         return Chosen::By(Revision::Rev2021);
     }
-    if count == 2 {
-        if let Chosen::By(revision) = first_named() {
+    if !is_given(arguments, 2) {
+        if let Chosen::By(revision) = first_named(arguments) {
             return Chosen::By(revision);
         }
     }
-    io::write_all(STDERR, usage);
+    let _ = errors.write_all(usage);
     Chosen::Nothing
 }

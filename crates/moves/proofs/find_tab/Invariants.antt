@@ -1,6 +1,5 @@
 -- One byte a turn, up to the end.
-use Prim.Native.Nat.{◌≤◌, ◌-◌}
-use lib.ListN.{length}
+use Rattle.std.proofs.Common.{length, ◌-◌, ◌≤◌}
 use Rattle.moves.proofs.find_tab.Given as goal
 
 abbrev pub invariant-loop-i : goal.invariant-loop-i

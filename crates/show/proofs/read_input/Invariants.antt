@@ -1,11 +1,9 @@
 -- The bytes got are within the block, and each turn gets some more.
-use mathlib.Core.Path.{◌≡◌}
-use Prim.Native.Nat.{◌≤◌, ◌-◌}
-use lib.ListN.{length}
+use Rattle.std.proofs.Common.{length, ◌-◌, ◌≡◌, ◌≤◌}
 use Rattle.show.proofs.read_input.Given as goal
 
 abbrev pub invariant-loop-got : goal.invariant-loop-got
-invariant-loop-got l = (l.got ≤ length l.block) × (length l.block ≡ length l.initial.block)
+invariant-loop-got g l = (l.got ≤ length l.block) × (length l.block ≡ length l.initial.block)
 
 abbrev pub decreases-loop-got : goal.decreases-loop-got
-decreases-loop-got l = length l.block - l.got
+decreases-loop-got g l = length l.initial.block - l.got

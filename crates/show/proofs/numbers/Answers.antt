@@ -1,7 +1,0 @@
--- The line is a part of the block.
-use native.Mathlib.Omega.{arith}
-use lib.ListN.{length-take}
-use Rattle.show.proofs.numbers.Goals as goal
-
-pub slice_bounds-write_all-end : goal.slice_bounds-write_all-end
-slice_bounds-write_all-end c = simp length-take (omega (arith, c.numbers_line-length.ensures.inside))
