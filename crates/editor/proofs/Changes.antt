@@ -1,8 +1,8 @@
 -- An edit that was asked for: the numbers of its span are those of whole rows before it and of the new rows after it, so the counts
 -- lose the old rows' holes and gain the new ones'.
-use mathlib.Core.Path.{◌≡◌, refl, sym, ap, ◌∙◌, subst}
-use mathlib.Core.Bool.{Bool, true, false, not, cond}
-use mathlib.Core.List.{List, ◌++◌}
+use mathlib.Core.Path.{◌≡◌, sym, ap, ◌∙◌, subst}
+use mathlib.Core.Bool.{true, false, not}
+use mathlib.Core.List.{List}
 use Prim.Native.Nat.{ℕ, ◌+◌, ◌-◌, ◌*◌, ◌≤◌}
 use native.Mathlib.Omega.{arith}
 use lib.IntN.{ℤ}
@@ -11,7 +11,7 @@ use lib.Seq.{take_at}
 use Rattle.lists.specs.Put.{put_at}
 use Rattle.lists.proofs.Put.{put_at_lem}
 use Rattle.lists.proofs.Choice.{failed, passed}
-use Rattle.runs.specs.Machine.{Verdict, accepted, refused, on_verdict, all_hold, Span}
+use Rattle.runs.specs.Machine.{Verdict, refused, all_hold, Span}
 use Rattle.rules.specs.declared.Command.{Command}
 use Rattle.rules.specs.declared.State.{State}
 use Rattle.rules.specs.declared.Refusal.{Refusal}
@@ -23,7 +23,7 @@ use Rattle.rules.specs.Answers.{said}
 use Rattle.rules.specs.Rows.{row_width, entries_of, table_numbers}
 use Rattle.rules.specs.Reading.{Rows}
 use Rattle.rules.specs.Counting.{counts_fit}
-use Rattle.rules.specs.Editing.{edit_of, meeting_of, meeting_answer, old_rows, edit_counted, edit_answer, edit_leaves, edit_counts}
+use Rattle.rules.specs.Editing.{edit_of, meeting_answer, old_rows, edit_counted, edit_answer, edit_leaves, edit_counts}
 use Rattle.laws.proofs.Entries.{table_length, entries_length, entries_add, entries_drop, table_whole}
 use Rattle.laws.proofs.OldRows.{edit_stood}
 use Rattle.tally.specs.declared.Taken.{Taken}

@@ -1,5 +1,5 @@
 -- For contracts of private functions alone: how many bytes the text of rows has, and the text of a table's commands.
-use Rattle.std.specs.Prelude.{List, [], ◌∷◌, ◌++◌, ℕ, zero, suc, ◌+◌, ℤ, length}
+use Rattle.std.specs.Prelude.{List, [], ◌++◌, ℕ, zero, suc, ◌+◌, ℤ, length}
 use Rattle.runs.specs.Machine.{Verdict, accepted, refused}
 use Rattle.rules.specs.declared.Refusal.{Refusal}
 use Rattle.rules.specs.declared.Answer.{Answer}

@@ -1,8 +1,8 @@
 -- The counts in a lent block: two parts of it, and what a block that is too short does to each answer.
-use mathlib.Core.Path.{◌≡◌, refl, sym, ap, ap₂, ◌∙◌, subst}
-use mathlib.Core.Bool.{Bool, true, false, cond, false≢true}
-use mathlib.Core.List.{List, [], ◌∷◌, ◌++◌, append-nil}
-use Prim.Native.Nat.{ℕ, ◌+◌, ◌-◌, ◌*◌, ◌/◌, ◌<◌, ◌≤◌}
+use mathlib.Core.Path.{◌≡◌, refl, sym, ap, ap₂, ◌∙◌}
+use mathlib.Core.Bool.{Bool, true, false, cond}
+use mathlib.Core.List.{List, [], ◌++◌, append-nil}
+use Prim.Native.Nat.{ℕ, ◌+◌, ◌-◌, ◌/◌, ◌<◌, ◌≤◌}
 use native.Mathlib.Omega.{arith}
 use native.Mathlib.Nat.{zero-add}
 use borrow.Author.Tests.{le-leb, lt-leb, leb-true, leb-false}
@@ -11,7 +11,6 @@ use lib.IntN.{ℤ}
 use lib.ListN.{length, get_or, take, drop, length-drop, drop_of_length-le}
 use lib.Seq.{get_or-take, get_or-drop, length-take-le, take-length, drop-length}
 use Rattle.lists.specs.Put.{put_at}
-use Rattle.lists.proofs.Put.{put_put}
 use Rattle.lists.proofs.Choice.{cond_all}
 use Rattle.runs.specs.Machine.{Verdict, accepted, refused, on_verdict}
 use Rattle.rules.specs.declared.Refusal.{Refusal}
@@ -25,7 +24,7 @@ use Rattle.rules.specs.Numbers.{max_tool, is_tool}
 use Rattle.rules.specs.Answers.{said}
 use Rattle.rules.specs.Rows.{row_width}
 use Rattle.rules.specs.Reading.{Rows, file_of, has_room, in_room, with_rows, read_answer, read_leaves}
-use Rattle.rules.specs.Counting.{of_tool, count_of, counts_of, no_counts, read_counts}
+use Rattle.rules.specs.Counting.{count_of, read_counts}
 use Rattle.rules.specs.Editing.{meeting_answer, edit_answer, edit_leaves, edit_counts}
 use Rattle.rules.proofs.Said.{said_one}
 use Rattle.laws.proofs.Sizes.{sizes_say}
