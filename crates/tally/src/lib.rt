@@ -142,14 +142,10 @@ pub fn none() -> Counts
 pub fn with_rows(counts: Counts, rows: &[i32]) -> Counts
     ensures { result ≡ S.with_rows counts rows.now }
 {
-    let mut hits = counts.hits;
-    let mut routs = counts.routs;
-    add(&mut hits, rows, HITS);
-    add(&mut routs, rows, ROUTS);
-    Counts {
-        hits: hits,
-        routs: routs,
-    }
+    let mut all = counts;
+    add(&mut all.hits, rows, HITS);
+    add(&mut all.routs, rows, ROUTS);
+    all
 }
 
 // Counts that can't be those of a table with the rows.
@@ -163,7 +159,8 @@ fn unfit(counts: Counts) -> Taken
 }
 
 /// Counts without the holes of some rows, where each count is at most 1,000 and at least what the rows take from it. Else they
-/// stay as they were.
+/// stay as they were. A call of its own, so that its copies take no stack while others run.
+#[inline(never)]
 pub fn without_rows(counts: Counts, rows: &[i32]) -> Taken
     ensures { result ≡ S.without_rows counts rows.now }
 {
@@ -173,20 +170,16 @@ pub fn without_rows(counts: Counts, rows: &[i32]) -> Taken
     if !none_over(&counts.routs) {
         return unfit(counts);
     }
-    let mut hits = counts.hits;
-    if !take(&mut hits, rows, HITS) {
+    let mut left = counts;
+    if !take(&mut left.hits, rows, HITS) {
         return unfit(counts);
     }
-    let mut routs = counts.routs;
-    if !take(&mut routs, rows, ROUTS) {
+    if !take(&mut left.routs, rows, ROUTS) {
         return unfit(counts);
     }
     Taken {
         fits: true,
-        counts: Counts {
-            hits: hits,
-            routs: routs,
-        },
+        counts: left,
     }
 }
 
