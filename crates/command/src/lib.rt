@@ -234,6 +234,7 @@ fn tool_digits(fewest: usize, digits: usize) -> bool
 }
 
 // T, a tool number; or T, a tool number, C, a number. How many digits a tool number has is form.
+#[tactic(auto, using(crate::proofs::Tools::select_zero))]
 fn tool_line(s: &[u8], revision: Revision) -> LineAnswer
     ensures { result ≡ on_form (column_after 1 (drop 1 s.now)) (tool_form revision (drop 1 s.now)) }
 {
@@ -357,6 +358,7 @@ fn g_line(s: &[u8]) -> LineAnswer
 }
 
 // After its `;` a comment holds no second one.
+#[tactic(auto, using(crate::proofs::Comments::second_semicolon))]
 fn comment_line(s: &[u8]) -> LineAnswer
     ensures { ByEach (bytes ";" ++ drop 1 s.now) result }
 {

@@ -37,7 +37,7 @@ use Rattle.laws.proofs.Entries.{entries_length}
 use Rattle.obeys.proofs.Lines.{LineSays, line_sound, line_says}
 use Rattle.obeys.proofs.Files.{taken_takes, takes_taken, taken_refused, refused_taken}
 use Rattle.demands.specs.HoleRefused.{LineOfTable, found_at, StateBefore}
-use Rattle.demands.specs.EditRefused.{NoLineEnd, MayEdit, rows_from, Stops, row_is_bad, untaken, too_soon, LineStays, sizes, no_line, line_end, row_before, row_itself, new_line_lem, rows, Meets, agree, last}
+use Rattle.demands.specs.EditRefused.{NoLineEnd, MayEdit, rows_from, Stops, row_is_bad, untaken, too_soon, LineStays, sizes, no_line, line_end, row_before, row_itself, new_line, rows, Meets, agree, last}
 use Rattle.demands.proofs.HoleRefused.{line_of_lem, no_line_of, line_not, BeforeIs, before_is, is_before, bad_before}
 
 -- ---- a line end
@@ -122,7 +122,7 @@ module _ (rev : Revision) (t : List ℤ) (n k : ℕ) (l : List ℕ) where
     line_told : (o : Out Command Refusal) → LineSays rev l o → EditSays (on_out o (λ e. refused e k) (λ c. edit_from (entries_of n t) k p old.state c))
     unfolding EditSays
     line_told (yields c) sp = rerun_says c sp
-    line_told (stops e) r = new_line_lem w r
+    line_told (stops e) r = new_line w r
 
     -- the edit comes so far
     reached : edit_of rev t n k l ≡ new_line p old.state
@@ -168,7 +168,7 @@ module _ (rev : Revision) (t : List ℤ) (n k : ℕ) (l : List ℕ) where
   refused_edit (line_end a h) = rw (sizes_fit_lem t n a.sizes, line_is n k a.from a.upto, holds_end l h)
   refused_edit (row_before a b h d) = rw (sizes_fit_lem t n a.sizes, line_is n k a.from a.upto, free_end b, bad_before t n k h d)
   refused_edit (row_itself a b s d) = rw (sizes_fit_lem t n a.sizes, line_is n k a.from a.upto, free_end b, is_before t n k s, d)
-  refused_edit (new_line_lem {e = e} w r) = reached w ∙ rw ((line_says rev l (stops e)).1 r)
+  refused_edit (new_line {e = e} w r) = reached w ∙ rw ((line_says rev l (stops e)).1 r)
   refused_edit (rows {p = p} {c = c} {new = new} {e = e} w sp d u h) =
       reached_command w c sp ∙ ap (λ (es : List (Entry Command State)). rerun_from p es (k - 1)) d
       ∙ (rerun_is p _ (k - 1) (refused e (k + length new))).1

@@ -11,7 +11,7 @@ use Rattle.rules.specs.Lines.{Line, lines_of, text_of, AllEnded}
 use Rattle.rules.specs.Spelling.{LineEnd}
 use Rattle.rules.specs.Editing.{no_line_end}
 use Rattle.laws.proofs.Lines.{new_no_lf, new_no_cr, no_cr, line_with, end_line, end_text, lines_append, first_falls}
-use Rattle.demands.specs.EditedFile.{WholeLines, none, one_more_lem, LineOf, edited}
+use Rattle.demands.specs.EditedFile.{WholeLines, none, one_more, LineOf, edited}
 
 -- a new line's text is what was given
 pub text_new : (l : List ℕ) {e : List ℕ} (w : LineEnd e) → no_line_end l ≡ true → text_of (line_with l w).bytes ≡ l
@@ -22,7 +22,7 @@ text_new l w h = end_text l w (λ _. no_cr l (new_no_cr l h))
 whole_ended : {b : List ℕ} {n : ℕ} → WholeLines b n → AllEnded (lines_of b) × (length (lines_of b) ≡ n)
 unfolding lines_of
 whole_ended none = (tt, refl)
-whole_ended (one_more_lem w h) =
+whole_ended (one_more w h) =
     let g = whole_ended h in
     let e = first_falls w in
     (rw e (refl, g.0), ap length e ∙ ap suc g.1)

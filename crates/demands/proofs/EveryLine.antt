@@ -16,7 +16,7 @@ use Rattle.rules.specs.Reading.{Rows, file_of}
 use Rattle.rules.specs.Editing.{no_line_end}
 use Rattle.laws.proofs.Lines.{ends_cr, ended_line, cr_of, line_with, ended, last, FirstOf, first_of, first_line, no_cr_end, join_of, join_lines}
 use Rattle.answers.proofs.AcceptedFile.{file_accepts, file_ended}
-use Rattle.demands.specs.EditedFile.{none, one_more_lem, LineOf, edited}
+use Rattle.demands.specs.EditedFile.{none, one_more, LineOf, edited}
 use Rattle.demands.proofs.EditedLines.{line_number, lines_old, lines_set}
 
 -- ---- line k
@@ -43,7 +43,7 @@ module _ (bs b rest : List ℕ) (p : bs ≡ b ++ (LF ∷ rest)) (h : NoLF b) whe
     from = w.from;
     parts = p ∙ ap (λ (z : List ℕ). b ++ (LF ∷ z)) w.parts ∙ sym (append_assoc b (LF ∷ w.before) w.from);
     lines_before = suc w.lines_before;
-    whole_lines = one_more_lem (first_line (b ++ (LF ∷ w.before)) b w.before refl h) w.whole_lines;
+    whole_lines = one_more (first_line (b ++ (LF ∷ w.before)) b w.before refl h) w.whole_lines;
     number = ap suc w.number;
     line = w.line;
     after = w.after;

@@ -1,6 +1,6 @@
 -- Demand 1: every input has one answer, since reading, editing, writing and the questions are functions of what is handed in. A
 -- refusal has one of the numbers listed and a line up to the one that is missing after the last, names a column or none
--- (column-only), and leaves everything lent, and the counts, as it was; a success changes what it says and nothing beyond. The
+-- (column_only), and leaves everything lent, and the counts, as it was; a success changes what it says and nothing beyond. The
 -- questions are lent nothing that they could change.
 use Rattle.std.specs.Prelude.{◌≡◌, Bool, true, false, ◌||◌, List, [], ◌∷◌, ℕ, ◌+◌, ◌-◌, ◌*◌, ◌≤◌, eqb, ℤ, length, take, drop}
 use Rattle.rules.specs.declared.Refusal.{Refusal}

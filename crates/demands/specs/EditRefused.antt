@@ -58,7 +58,7 @@ pub data LineStays (rev : Revision) (t : List ℤ) (n k : ℕ) (l : List ℕ) : 
   row_itself : {p : State} → LineOfTable t n k → NoLineEnd l → StateBefore t n k p → found_at t n k ≡ bad
       → LineStays rev t n k l bad_table k
   -- the new line, from 6 on
-  new_line_lem : {p : State} {old : Row Command State} {e : Refusal} → MayEdit t n k l p old → LineRefused rev l e → LineStays rev t n k l e k
+  new_line : {p : State} {old : Row Command State} {e : Refusal} → MayEdit t n k l p old → LineRefused rev l e → LineStays rev t n k l e k
   -- the new command, and the rows up to the meeting line: some are taken again without agreement, and the next one stops it
   rows : {p : State} {old : Row Command State} {c : Command} {past new : Rows} {left : List (Entry Command State)} {e : Refusal}
       → MayEdit t n k l p old → SpellsLine rev l c → rows_from t n k c old ≡ all_hold past ++ left

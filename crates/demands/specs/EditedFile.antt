@@ -5,7 +5,7 @@ use Rattle.rules.specs.Spelling.{FirstLine}
 -- bytes that are whole lines, and how many
 pub data WholeLines : List ℕ → ℕ → Type 0 where
   none : WholeLines [] 0
-  one_more_lem : {bs l rest : List ℕ} {n : ℕ} → FirstLine bs l rest → WholeLines rest n → WholeLines bs (suc n)
+  one_more : {bs l rest : List ℕ} {n : ℕ} → FirstLine bs l rest → WholeLines rest n → WholeLines bs (suc n)
 
 -- line k of a file: the bytes before it, which are whole lines, one fewer than k; and those from it on, which begin with its
 -- text and its end

@@ -1,5 +1,5 @@
 -- Document 02, #106: which column. A line's refusal is one, its column included, and is given exactly when (LineRefused, which no reader is
--- in). That a column comes with 4 and 7 alone, and lies in the line, is demand 1's (column-only).
+-- in). That a column comes with 4 and 7 alone, and lies in the line, is demand 1's (column_only).
 use Rattle.std.specs.Prelude.{◌≡◌, List, ◌∷◌, ◌++◌, ℕ}
 use Rattle.lists.specs.Exactly.{Exactly}
 use Rattle.lists.specs.Words.{bytes}

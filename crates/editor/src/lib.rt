@@ -24,6 +24,7 @@ enum Asked {
 }
 
 // Whether a new line's bytes hold none of a line end.
+#[tactic(auto, unfolding(rules::specs::Editing::no_line_end))]
 fn no_line_end(text: &[u8]) -> bool
     ensures { result ≡ no_line_end text.now }
 {

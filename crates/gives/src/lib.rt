@@ -36,6 +36,7 @@ pub fn hole(command: Command, from: Point, state: State) -> HoleAnswer
 }
 
 /// The diameter that a command declares for a tool, if it does.
+#[tactic(auto, using(crate::proofs::Gives::declared_this))]
 pub fn diameter(command: Command, tool: u32) -> Declared
     ensures { result ≡ Asking.declared_by tool command }
 {

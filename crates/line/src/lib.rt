@@ -13,6 +13,7 @@ use rules::{
 };
 
 /// Where the line that begins at `from` has its LF, or the file's end; past the end it is `from` itself.
+#[tactic(auto, using(crate::proofs::Lines::find_hit))]
 pub fn find_lf(file: &[u8], from: usize) -> usize
     ensures { result ≡ from + find_lf (drop from file.now) }
 {
@@ -27,6 +28,7 @@ pub fn find_lf(file: &[u8], from: usize) -> usize
 }
 
 /// A line's bytes without the one CR that belongs to its end.
+#[tactic(auto, using(crate::proofs::Texts::text_cr))]
 pub fn text_of(line: &[u8]) -> &[u8]
     ensures { (result.now ≡ text_of line.now) × (result.ref_ptr ≡ line.entry.ref_ptr) }
 {
@@ -49,6 +51,7 @@ fn says_no(refusal: Refusal) -> LineAnswer
 }
 
 // How many bytes it begins with that are in 32 to 126: the first forbidden byte stands behind them.
+#[tactic(auto, using(crate::proofs::Texts::allowed_low))]
 fn allowed_bytes(s: &[u8]) -> usize
     ensures { result ≡ allowed_bytes s.now }
 {
@@ -68,6 +71,7 @@ fn allowed_bytes(s: &[u8]) -> usize
 
 /// What a line's text says by a revision: a command, or the refusal 6, 4, 5 or 7, the first that there is ground for; 4 and 7 in their
 /// column.
+#[tactic(auto, using(crate::proofs::Texts::too_long))]
 pub fn read(text: &[u8], revision: Revision) -> LineAnswer
     ensures { result ≡ line_of revision text.now }
 {
@@ -83,6 +87,7 @@ pub fn read(text: &[u8], revision: Revision) -> LineAnswer
 
 /// What a line of a file says by a revision, given its number, its bytes up to its LF, and whether the LF is there: 2, 3, then its
 /// text's own.
+#[tactic(auto, using(crate::proofs::Texts::too_many, crate::proofs::Texts::not_ended, crate::proofs::Texts::text_says))]
 pub fn answer(number: usize, line: &[u8], ended: bool, revision: Revision) -> LineAnswer
     ensures { result ≡ answer_in revision number (line_of_bytes line.now ended) }
 {

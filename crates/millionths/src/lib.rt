@@ -63,6 +63,7 @@ fn radius_places(decimals: u32) -> usize
 // ---- lengths
 
 // The point and so many decimals of any number, or nothing for none.
+#[tactic(auto, using(crate::proofs::Numbers::no_fraction))]
 fn fraction_length(decimals: usize) -> usize
     requires { decimals ≤ max_places }
     ensures { ((f : ℕ) → result ≡ length (fraction_text decimals f)) × (result ≤ 7) }

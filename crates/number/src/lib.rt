@@ -203,6 +203,7 @@ pub fn coordinate(w: Written) -> CoordinateRead
 }
 
 /// The diameter or radius that a number without a sign is.
+#[tactic(auto, using(crate::proofs::Ranges::size_zero))]
 pub fn size(w: Written) -> SizeRead
     ensures { result ≡ size_read w.column (decimal_of w) }
 {

@@ -75,6 +75,7 @@ pub fn place_of(decimals: u32) -> u32
 }
 
 // The same where fewer than three decimals count as three.
+#[tactic(auto, unfolding(crate::specs::Points::last_unit))]
 fn last_unit(decimals: u32) -> u64
     ensures { (result ≡ S.last_unit decimals) × (result ≤ 1000000) }
 {

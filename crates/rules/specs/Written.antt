@@ -1,5 +1,5 @@
 -- Document 01, "Writing", once more as a relation: which bytes write which number, which command, which rows. A radius is written by
--- document 02's #104. What the writer writes is the one text that this allows (one-spelling).
+-- document 02's #104. What the writer writes is the one text that this allows (one_spelling).
 use Rattle.std.specs.Prelude.{List, [], ◌∷◌, ◌++◌, ℕ, suc, ◌+◌, ◌-◌, ◌*◌, ◌^◌, ◌<◌, ◌≤◌, ◌≡◌, ℤ, pos, negsuc}
 use Prim.Native.Char.{code}
 use Rattle.lists.specs.Words.{bytes}

@@ -11,6 +11,7 @@ use rules::{Before, Command, Looked, MAX_LINES, Next, ROW_WIDTH, State};
 // ---- its sizes
 
 /// Whether n is 1 to 1,000, and no more than the lent numbers hold.
+#[tactic(auto, unfolding(rules::specs::Rows::sizes_fit))]
 pub fn sizes_fit(table: &[i32], n: usize) -> bool
     ensures { result ≡ Rows.sizes_fit table.now n }
 {
@@ -77,6 +78,7 @@ pub fn following(table: &[i32], i: usize, before: State) -> Looked
 }
 
 /// The state before a line, as it stands in the row before; the first line starts all zero.
+#[tactic(auto, unfolding(rules::specs::Editing::before_line))]
 pub fn state_before(table: &[i32], line: usize) -> Before
     ensures { result ≡ Editing.before_line line (S.row_at table.now (line - 1)) }
 {

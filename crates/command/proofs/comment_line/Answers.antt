@@ -11,11 +11,6 @@ loop-i-init c = refl
 pub bounds-s-i : goal.bounds-s-i
 bounds-s-i c = omega arith
 
-pub returns-then-s-i-eq59 : goal.returns-then-s-i-eq59
-returns-then-s-i-eq59 c rev =
-    c.says_no.ensures ∙ second_semicolon c.args.s.now _ c.loop-i.i c.loop-i.invariant c.loop-i-test.true
-    c.if-s-i-eq59.true rev
-
 pub overflow_add-i : goal.overflow_add-i
 overflow_add-i c = omega arith
 

@@ -45,13 +45,6 @@ returns-then-end-s c =
     c.says_no-then-end-s.ensures ∙ select_goes_on a.revision a.s.now c.run_at-t.ensures.0 c.stands.ensures c.if-stands.false
     (passed c.tool_digits-2.ensures c.if-not-tool_digits-2.false-raw) c.if-end-s.true
 
-pub returns-then-value-eq0 : goal.returns-then-value-eq0
-returns-then-value-eq0 c =
-    let a = c.args in
-    c.says_no-then-value-eq0.ensures ∙ ap says_no c.out_of_range.ensures
-    ∙ select_zero a.revision a.s.now c.run_at-t.ensures.0 c.stands.ensures c.if-stands.false
-    (passed c.tool_digits-2.ensures c.if-not-tool_digits-2.false-raw) c.if-end-s.false c.if-value-eq0.true
-
 pub returns : goal.returns
 returns c =
     let a = c.args in

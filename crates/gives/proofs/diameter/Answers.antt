@@ -3,9 +3,6 @@ use borrow.Enum.Refused.{opened}
 use Rattle.gives.proofs.Gives.{declared_this, declared_not, declared_other}
 use Rattle.gives.proofs.diameter.Goals as goal
 
-pub returns-then-t-tool : goal.returns-then-t-tool
-returns-then-t-tool c = declared_this _ _ _ _ c.in-Declare.is c.if-t-tool.true
-
 pub returns-else-t-tool : goal.returns-else-t-tool
 returns-else-t-tool c = declared_not _ _ _ _ c.in-Declare.is c.if-t-tool.false
 

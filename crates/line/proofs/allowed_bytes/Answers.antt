@@ -10,10 +10,6 @@ loop-allowed-init c = zero-add _
 pub bounds-s-allowed : goal.bounds-s-allowed
 bounds-s-allowed c = omega arith
 
-pub returns-then-b-lt32 : goal.returns-then-b-lt32
-returns-then-b-lt32 c =
-    allowed_low c.args.s.now c.loop-allowed.allowed c.loop-allowed.invariant c.loop-allowed-test.true c.if-b-lt32.true
-
 pub returns-then-b-gt126 : goal.returns-then-b-gt126
 returns-then-b-gt126 c =
     allowed_high c.args.s.now c.loop-allowed.allowed c.loop-allowed.invariant c.loop-allowed-test.true c.if-b-gt126.true

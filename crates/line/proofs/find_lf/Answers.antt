@@ -10,11 +10,6 @@ loop-i-init c = refl
 pub bounds-file-i : goal.bounds-file-i
 bounds-file-i c = omega arith
 
-pub returns-then-file-i-eq10 : goal.returns-then-file-i-eq10
-returns-then-file-i-eq10 c =
-    let e = find_hit c.args.file.now c.loop-i.i c.loop-i-test.true c.if-file-i-eq10.true in
-    omega arith
-
 pub overflow_add-i : goal.overflow_add-i
 overflow_add-i c = omega arith
 

@@ -4,9 +4,6 @@ use Rattle.rules.specs.Commands.{says_no}
 use Rattle.line.proofs.Texts.{too_long, forbidden, allowed}
 use Rattle.line.proofs.read.Goals as goal
 
-pub returns-then-text-gt-MAX_LINE : goal.returns-then-text-gt-MAX_LINE
-returns-then-text-gt-MAX_LINE c = c.says_no.ensures ∙ too_long _ _ c.if-text-gt-MAX_LINE.true
-
 pub returns-then-allowed-text : goal.returns-then-allowed-text
 returns-then-allowed-text c =
     c.says_no-then-allowed-text.ensures ∙ ap says_no c.forbidden_byte.ensures

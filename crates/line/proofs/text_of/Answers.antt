@@ -8,9 +8,6 @@ use Rattle.line.proofs.text_of.Goals as goal
 pub slice_bounds-result-length : goal.slice_bounds-result-length
 slice_bounds-result-length c = simp length-take (omega arith)
 
-pub returns-then-line-n-eq13 : goal.returns-then-line-n-eq13
-returns-then-line-n-eq13 c = (text_cr _ c.if-n-gt0.true c.if-line-n-eq13.true, refl)
-
 pub returns-else-line-n-eq13 : goal.returns-else-line-n-eq13
 returns-else-line-n-eq13 c = (text_other _ c.if-n-gt0.true c.if-line-n-eq13.false, refl)
 

@@ -5,8 +5,5 @@ use lib.ListN.{length}
 use Rattle.millionths.proofs.Numbers.{no_fraction, some_fraction_length}
 use Rattle.millionths.proofs.fraction_length.Goals as goal
 
-pub returns-then-decimals-eq0 : goal.returns-then-decimals-eq0
-returns-then-decimals-eq0 c = (λ f. sym (ap length (no_fraction _ f c.if-decimals-eq0.true)), omega arith)
-
 pub returns : goal.returns
 returns c = (λ f. sym (some_fraction_length _ f c.if-decimals-eq0.false), omega arith)

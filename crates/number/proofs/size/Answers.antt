@@ -6,10 +6,6 @@ use Rattle.number.proofs.size.Goals as goal
 pub returns-then-places-gt-MAX_PLACES : goal.returns-then-places-gt-MAX_PLACES
 returns-then-places-gt-MAX_PLACES c = size_places _ (decimal_of c.args.w) c.out_of_range.ensures c.if-places-gt-MAX_PLACES.true
 
-pub returns-then-n-eq0 : goal.returns-then-n-eq0
-returns-then-n-eq0 c =
-    size_zero _ (decimal_of c.args.w) c.if-places-gt-MAX_PLACES.false _ c.millionths-n.ensures c.out_of_range-then-n-eq0.ensures c.if-n-eq0.true
-
 pub returns-then-n-gt-MAX_NUMBER : goal.returns-then-n-gt-MAX_NUMBER
 returns-then-n-gt-MAX_NUMBER c =
     size_large _ (decimal_of c.args.w) c.if-places-gt-MAX_PLACES.false _ c.millionths-n.ensures c.if-n-eq0.false c.out_of_range-then-n-gt-MAX_NUMBER.ensures c.if-n-gt-MAX_NUMBER.true

@@ -5,10 +5,6 @@ use native.Mathlib.Omega.{arith}
 use Rattle.points.specs.Points.{last_unit}
 use Rattle.points.proofs.last_unit.Goals as goal
 
-pub returns-then-decimals-lt3 : goal.returns-then-decimals-lt3
-unfolding last_unit
-returns-then-decimals-lt3 c = let e : max c.args.decimals 3 ≡ 3 = omega arith in rw e (c.place_of.ensures.0, omega arith)
-
 pub returns : goal.returns
 unfolding last_unit
 returns c =

@@ -17,12 +17,6 @@ pub returns-then-tool-eq0 : goal.returns-then-tool-eq0
 unfolding diameter_answer is_tool
 returns-then-tool-eq0 c = rw (passed c.sizes_fit.ensures c.if-not-sizes_fit.false-raw, lt-leb 1 c.args.tool (omega arith))
 
-pub returns-then-tool-gt-MAX_TOOL : goal.returns-then-tool-gt-MAX_TOOL
-unfolding diameter_answer is_tool
-returns-then-tool-gt-MAX_TOOL c =
-    let tool = c.args.tool in
-    rw (passed c.sizes_fit.ensures c.if-not-sizes_fit.false-raw, le-leb 1 tool (omega arith), lt-leb tool max_tool c.if-tool-gt-MAX_TOOL.true)
-
 pub find_diameter-requires : goal.find_diameter-requires
 find_diameter-requires c = (sizes_say _ _ (passed c.sizes_fit.ensures c.if-not-sizes_fit.false-raw)).room
 

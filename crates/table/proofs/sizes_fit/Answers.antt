@@ -9,10 +9,6 @@ pub returns-then-n-eq0 : goal.returns-then-n-eq0
 unfolding sizes_fit
 returns-then-n-eq0 c = rw (lt-leb 1 c.args.n (omega arith))
 
-pub returns-then-n-gt-MAX_LINES : goal.returns-then-n-gt-MAX_LINES
-unfolding sizes_fit
-returns-then-n-gt-MAX_LINES c = let n = c.args.n in rw (le-leb 1 n (omega arith), lt-leb n max_lines c.if-n-gt-MAX_LINES.true)
-
 pub returns : goal.returns
 unfolding sizes_fit
 returns c = let n = c.args.n in rw (le-leb 1 n (omega arith), le-leb n max_lines c.if-n-gt-MAX_LINES.false)

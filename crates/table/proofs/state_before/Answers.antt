@@ -5,10 +5,6 @@ use Rattle.rules.specs.Editing.{before_line}
 use Rattle.table.proofs.Looks.{before_row}
 use Rattle.table.proofs.state_before.Goals as goal
 
-pub returns-then-line-le1 : goal.returns-then-line-le1
-unfolding before_line
-returns-then-line-le1 c = rw (c.new.ensures, le-leb c.args.line 1 c.if-line-le1.true)
-
 pub returns-in-Holds : goal.returns-in-Holds
 returns-in-Holds c = before_row _ _ c.if-line-le1.false (sym c.in-Holds.is ∙ c.look.ensures)
 
