@@ -88,8 +88,8 @@ module _ (rev : Revision) (t : List ℤ) (n k : ℕ) (l : List ℕ) where
   EditSays (refused e i) = LineStays rev t n k l e i
 
   -- from the state p before line k, whose old row left the state o: the new line, and the rows from its command on
-  abbrev new_line : State → State → Verdict (Span Command State) Refusal
-  new_line p o = on_out (say_out (line_of rev l)) (λ e. refused e k) (λ c. edit_from (entries_of n t) k p o c)
+  abbrev new_line_verdict : State → State → Verdict (Span Command State) Refusal
+  new_line_verdict p o = on_out (say_out (line_of rev l)) (λ e. refused e k) (λ c. edit_from (entries_of n t) k p o c)
 
   module _ {p : State} {old : Row Command State} (w : MayEdit t n k l p old) where
     -- ---- the new command and the rows after it
@@ -125,7 +125,7 @@ module _ (rev : Revision) (t : List ℤ) (n k : ℕ) (l : List ℕ) where
     line_told (stops e) r = new_line w r
 
     -- the edit comes so far
-    reached : edit_of rev t n k l ≡ new_line p old.state
+    reached : edit_of rev t n k l ≡ new_line_verdict p old.state
     unfolding edit_of edit_rows
     reached =
         rw (sizes_fit_lem t n w.line.sizes, line_is n k w.line.from w.line.upto, free_end w.no_end, is_before t n k w.before, w.row)
@@ -137,13 +137,13 @@ module _ (rev : Revision) (t : List ℤ) (n k : ℕ) (l : List ℕ) where
   -- ---- the rows before it and at it
 
   row_told : LineOfTable t n k → NoLineEnd l → {p : State} → StateBefore t n k p → (e : Entry Command State) → found_at t n k ≡ e
-      → EditSays (on_before (state_in e) (refused bad_table k) (new_line p))
+      → EditSays (on_before (state_in e) (refused bad_table k) (new_line_verdict p))
   unfolding EditSays
   row_told a b s (holds r) d = line_told (record { line = a; no_end = b; before = s; row = d }) (say_out (line_of rev l)) (line_sound rev l)
   row_told a b s bad d = row_itself a b s d
 
   before_told : LineOfTable t n k → NoLineEnd l → (x : Before) → BeforeIs t n k x
-      → EditSays (on_before x (refused bad_table (k - 1)) (λ p. on_before (state_in (found_at t n k)) (refused bad_table k) (new_line p)))
+      → EditSays (on_before x (refused bad_table (k - 1)) (λ p. on_before (state_in (found_at t n k)) (refused bad_table k) (new_line_verdict p)))
   unfolding EditSays
   before_told a b (From p) s = row_told a b s (found_at t n k) refl
   before_told a b Bad s = row_before a b s.0 s.1
