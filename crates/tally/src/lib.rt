@@ -159,7 +159,8 @@ fn unfit(counts: Counts) -> Taken
 }
 
 /// Counts without the holes of some rows, where each count is at most 1,000 and at least what the rows take from it. Else they
-/// stay as they were. A call of its own, so that its copies take no stack while others run.
+/// stay as they were.
+// a call of its own, so that its copies take no stack while others run
 #[inline(never)]
 pub fn without_rows(counts: Counts, rows: &[i32]) -> Taken
     ensures { result ≡ S.without_rows counts rows.now }
