@@ -51,7 +51,7 @@ fn says_no(refusal: Refusal) -> LineAnswer
 }
 
 // How many bytes it begins with that are in 32 to 126: the first forbidden byte stands behind them.
-#[tactic(auto, using(crate::proofs::Texts::allowed_low))]
+#[tactic(auto, using(crate::proofs::Texts::allowed_low, crate::proofs::Texts::allowed_high, crate::proofs::Texts::allowed_turn, crate::proofs::Texts::allowed_end))]
 fn allowed_bytes(s: &[u8]) -> usize
     ensures { result ≡ allowed_bytes s.now }
 {
@@ -71,7 +71,7 @@ fn allowed_bytes(s: &[u8]) -> usize
 
 /// What a line's text says by a revision: a command, or the refusal 6, 4, 5 or 7, the first that there is ground for; 4 and 7 in their
 /// column.
-#[tactic(auto, using(crate::proofs::Texts::too_long))]
+#[tactic(auto, using(crate::proofs::Texts::too_long, crate::proofs::Texts::forbidden, crate::proofs::Texts::allowed))]
 pub fn read(text: &[u8], revision: Revision) -> LineAnswer
     ensures { result ≡ line_of revision text.now }
 {

@@ -58,7 +58,7 @@ fn find_diameter(table: &[i32], n: usize, tool: u32) -> DiameterAnswer
 }
 
 /// A tool's diameter, looked up from its declaration.
-#[tactic(auto, unfolding(rules::specs::Asking::diameter_answer, rules::specs::Numbers::is_tool))]
+#[tactic(auto, using(laws::proofs::Sizes::sizes_say), unfolding(rules::specs::Asking::diameter_answer, rules::specs::Numbers::is_tool))]
 pub fn diameter(table: &[i32], n: usize, tool: u32) -> DiameterAnswer
     ensures { diameter_said result ≡ diameter_said (Asking.diameter_answer table.now n tool) }
 {
