@@ -8,13 +8,14 @@ use borrow.Author.Tests.{le-leb}
 use lib.Dec.{leb}
 use lib.IntN.{ℤ}
 use lib.ListN.{length}
+use Rattle.std.specs.Prelude.{Ok}
 use Rattle.lists.specs.Put.{put_at}
 use Rattle.runs.specs.Machine.{Verdict, accepted, refused, on_verdict, nil, link}
 use Rattle.runs.proofs.Append.{Reads, Accepts, run_reads}
 use Rattle.rules.specs.declared.State.{State}
 use Rattle.rules.specs.declared.Refusal.{Refusal}
-use Rattle.rules.specs.declared.Answer.TheVariants.{Done, Refused}
 use Rattle.rules.specs.declared.Revision.{Revision}
+use Rattle.rules.specs.Results.{refused_at}
 use Rattle.rules.specs.Refusals.{file_too_long, ends_too_soon, no_room}
 use Rattle.rules.specs.Numbers.{max_file, max_lines}
 use Rattle.rules.specs.Lines.{Line, lines_of, AllEnded}
@@ -69,21 +70,21 @@ pub record ReadDone (rev : Revision) (bs : List ℕ) (t : List ℤ) (n : ℕ) : 
   pub room : row_width * length rows ≤ length t
 
 done_room : (rev : Revision) (bs : List ℕ) (t : List ℤ) (n : ℕ) (rs : Rows) → file_of rev bs ≡ accepted rs → (b : Bool) → has_room t (length rs) ≡ b
-    → cond b (Done (length rs)) (Refused no_room 0) ≡ Done n → ReadDone rev bs t n
+    → cond b (Ok (length rs)) (refused_at no_room 0) ≡ Ok n → ReadDone rev bs t n
 done_room rev bs t n rs e true w h = let m : length rs ≡ n = cc in record { rows = rs; read = e; counted = m; room = room_says t (length rs) w }
 done_room rev bs t n rs e false w h = absurd (let z : ◌≡◌ {A = ℕ} 0 1 = cc in omega arith)
 
-done_file : (rev : Revision) (bs : List ℕ) (t : List ℤ) (n : ℕ) (v : Verdict Rows Refusal) → file_of rev bs ≡ v → on_verdict v Refused (in_room t) ≡ Done n → ReadDone rev bs t n
+done_file : (rev : Revision) (bs : List ℕ) (t : List ℤ) (n : ℕ) (v : Verdict Rows Refusal) → file_of rev bs ≡ v → on_verdict v refused_at (in_room t) ≡ Ok n → ReadDone rev bs t n
 done_file rev bs t n (accepted rs) e h = done_room rev bs t n rs e (has_room t (length rs)) refl h
 done_file rev bs t n (refused a i) e h = absurd (let z : ◌≡◌ {A = ℕ} 0 1 = cc in omega arith)
 
-pub read_done : (rev : Revision) (bs : List ℕ) (t : List ℤ) (n : ℕ) → read_answer rev bs t ≡ Done n → ReadDone rev bs t n
+pub read_done : (rev : Revision) (bs : List ℕ) (t : List ℤ) (n : ℕ) → read_answer rev bs t ≡ Ok n → ReadDone rev bs t n
 unfolding read_answer
 read_done rev bs t n h = done_file rev bs t n (file_of rev bs) refl h
 
 -- and the other way: accepted rows for which there is room
 module _ (rev : Revision) (bs : List ℕ) (t : List ℤ) (rs : Rows) (e : file_of rev bs ≡ accepted rs) (h : row_width * length rs ≤ length t) where
-  pub read_accepts : read_answer rev bs t ≡ Done (length rs)
+  pub read_accepts : read_answer rev bs t ≡ Ok (length rs)
   unfolding read_answer
   read_accepts = rw (e, room_is t (length rs) h)
 
@@ -96,11 +97,11 @@ module _ (rev : Revision) (bs : List ℕ) (t : List ℤ) (rs : Rows) (e : file_o
   read_counts_lem = rw (e, room_is t (length rs) h)
 
 -- accepted rows for which there is none
-pub read_short : (rev : Revision) (bs : List ℕ) (t : List ℤ) (rs : Rows) → file_of rev bs ≡ accepted rs → length t < row_width * length rs → read_answer rev bs t ≡ Refused no_room 0
+pub read_short : (rev : Revision) (bs : List ℕ) (t : List ℤ) (rs : Rows) → file_of rev bs ≡ accepted rs → length t < row_width * length rs → read_answer rev bs t ≡ refused_at no_room 0
 unfolding read_answer
 read_short rev bs t rs e h = rw (e, no_room_is t (length rs) h)
 
 -- a refused file
-pub read_refuses : (rev : Revision) (bs : List ℕ) (t : List ℤ) (e : Refusal) (i : ℕ) → file_of rev bs ≡ refused e i → (read_answer rev bs t ≡ Refused e i) × (read_leaves rev bs t ≡ t)
+pub read_refuses : (rev : Revision) (bs : List ℕ) (t : List ℤ) (e : Refusal) (i : ℕ) → file_of rev bs ≡ refused e i → (read_answer rev bs t ≡ refused_at e i) × (read_leaves rev bs t ≡ t)
 unfolding read_answer read_leaves
 read_refuses rev bs t e i h = (rw h, rw h)

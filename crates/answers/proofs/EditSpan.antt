@@ -7,6 +7,7 @@ use Prim.Native.Nat.{ℕ, ◌+◌, ◌-◌, ◌≤◌}
 use native.Mathlib.Omega.{arith}
 use lib.IntN.{ℤ}
 use lib.ListN.{length, drop, length-drop}
+use Rattle.std.specs.Prelude.{Ok}
 use Rattle.lists.proofs.Choice.{cond_all}
 use Rattle.runs.specs.Machine.{Verdict, accepted, refused, on_verdict, Row, Entry, holds, Span, widen, rerun}
 use Rattle.runs.proofs.Meeting.{rerun_counted}
@@ -14,7 +15,6 @@ use Rattle.runs.proofs.Ways.{out_all}
 use Rattle.rules.specs.declared.Command.{Command}
 use Rattle.rules.specs.declared.State.{State}
 use Rattle.rules.specs.declared.Refusal.{Refusal}
-use Rattle.rules.specs.declared.Answer.TheVariants.{Done}
 use Rattle.rules.specs.declared.Counts.{Counts}
 use Rattle.rules.specs.declared.Revision.{Revision}
 use Rattle.rules.specs.Refusals.{bad_table, no_such_line, holds_line_end, ends_too_soon}
@@ -123,16 +123,16 @@ module _ (rev : Revision) (t : List ℤ) (n k : ℕ) (l : List ℕ) where
     counted_says s h = says_span s (edit_of rev t n k l) refl h
 
     fit_span : (m : ℕ) (s : Span Command State) → edit_of rev t n k l ≡ accepted s → (b : Bool) → counts_fit (old_rows (entries_of n t) k s) c ≡ b
-        → meeting_of (cond b (accepted s) (refused bad_table 0)) ≡ Done m → EditDone m
+        → meeting_of (cond b (accepted s) (refused bad_table 0)) ≡ Ok m → EditDone m
     fit_span m s e true f h = let d : s.meeting ≡ m = cc in record { span = s; verdict = e; fit = f; meets = d }
     fit_span m s e false f h = absurd (let z : ◌≡◌ {A = ℕ} 0 1 = cc in omega arith)
 
     done_span : (m : ℕ) (v : Verdict (Span Command State) Refusal) → edit_of rev t n k l ≡ v
-        → meeting_of (on_verdict v refused (λ s. cond (counts_fit (old_rows (entries_of n t) k s) c) (accepted s) (refused bad_table 0))) ≡ Done m → EditDone m
+        → meeting_of (on_verdict v refused (λ s. cond (counts_fit (old_rows (entries_of n t) k s) c) (accepted s) (refused bad_table 0))) ≡ Ok m → EditDone m
     done_span m (accepted s) e h = fit_span m s e (counts_fit (old_rows (entries_of n t) k s) c) refl h
     done_span m (refused e i) w h = absurd (let z : ◌≡◌ {A = ℕ} 0 1 = cc in omega arith)
 
-    pub edit_done : (m : ℕ) → edit_answer rev t n k l c ≡ Done m → EditDone m
+    pub edit_done : (m : ℕ) → edit_answer rev t n k l c ≡ Ok m → EditDone m
     unfolding edit_answer edit_counted
     edit_done m h = done_span m (edit_of rev t n k l) refl h
 

@@ -6,16 +6,14 @@ use native.Mathlib.Omega.{arith}
 use lib.IntN.{ℤ}
 use lib.ListN.{length, get_or, take, drop, length-drop}
 use lib.Seq.{length-take-le}
+use Rattle.std.specs.Prelude.{Some, None, Ok, Err}
 use Rattle.lists.proofs.Choice.{cond_all}
 use Rattle.runs.specs.Machine.{Entry, holds, bad}
 use Rattle.points.specs.declared.Point.{Point}
 use Rattle.rules.specs.declared.Command.{Command}
 use Rattle.rules.specs.declared.State.{State}
-use Rattle.rules.specs.declared.Looked.{Looked}
-use Rattle.rules.specs.declared.Looked.TheVariants as L
 use Rattle.rules.specs.declared.Hole.{Hole}
-use Rattle.rules.specs.declared.HoleAnswer.{HoleAnswer}
-use Rattle.rules.specs.declared.HoleAnswer.TheVariants as H
+use Rattle.rules.specs.Results.{HoleAnswer, Looked, refused_at}
 use Rattle.rules.specs.Refusals.{bad_table}
 use Rattle.rules.specs.Numbers.{max_number, max_tool}
 use Rattle.rules.specs.Kinds as Kinds
@@ -35,8 +33,8 @@ EntryOk (holds r) = CommandOk r.command × StateOk r.state
 EntryOk bad = Unit {0}
 
 looked_ok : (a : List ℤ) → length a ≡ row_width → (x : Looked) → look_of a ≡ x → EntryOk (entry_of x)
-looked_ok a n (L.Holds c s) e = let r = look_holds a c s n e in (r.command_ok, r.state_ok)
-looked_ok a n L.Bad e = tt
+looked_ok a n (Some r') e = let r = look_holds a r'.command r'.state n e in (r.command_ok, r.state_ok)
+looked_ok a n None e = tt
 
 entries_ok : (n : ℕ) (t : List ℤ) → row_width * n ≤ length t → (i : ℕ) → EntryOk (get_or (entries_of n t) i bad)
 unfolding entries_of
@@ -52,11 +50,11 @@ pub record HoleInRange (h : Hole) : Type 0 where
   pub radius_range : h.radius ≤ max_number
 
 abbrev Ranged : HoleAnswer → Type 0
-Ranged (H.Makes h) = HoleInRange h
-Ranged H.Nothing = Unit {0}
-Ranged (H.Refused e i) = Unit {0}
+Ranged (Ok (Some h)) = HoleInRange h
+Ranged (Ok None) = Unit {0}
+Ranged (Err r) = Unit {0}
 
-row_ranged : (from : Point) (k : ℕ) (e : Entry Command State) → EntryOk e → Ranged (on_row e (H.Refused bad_table k) (λ r. hole_of from r.command r.state))
+row_ranged : (from : Point) (k : ℕ) (e : Entry Command State) → EntryOk e → Ranged (on_row e (refused_at bad_table k) (λ r. hole_of from r.command r.state))
 row_ranged from k bad w = tt
 row_ranged from k (holds r) w =
     hole_cases Ranged from r.state r.command tt
@@ -74,5 +72,5 @@ hole_ranged t n k =
     (λ p. row_ranged p.at k (entry_at (entries_of n t) k) (entries_ok n t (sizes_say t n s).room (k - 1))))
     (λ _. tt)) (λ _. tt)
 
-pub hole_in_range : (t : List ℤ) (n k : ℕ) (h : Hole) → hole_answer t n k ≡ H.Makes h → HoleInRange h
+pub hole_in_range : (t : List ℤ) (n k : ℕ) (h : Hole) → hole_answer t n k ≡ Ok (Some h) → HoleInRange h
 hole_in_range t n k h e = subst Ranged e (hole_ranged t n k)

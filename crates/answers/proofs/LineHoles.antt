@@ -13,7 +13,7 @@ use Rattle.runs.specs.Agreement.{state_after}
 use Rattle.runs.proofs.Edit.{after_add}
 use Rattle.rules.specs.declared.Command.{Command}
 use Rattle.rules.specs.declared.State.{State}
-use Rattle.rules.specs.declared.HoleAnswer.{HoleAnswer}
+use Rattle.rules.specs.Results.{HoleAnswer}
 use Rattle.rules.specs.State.{start}
 use Rattle.rules.specs.Rows.{Good}
 use Rattle.rules.specs.Reading.{Rows, no_row, row_of, state_before}

@@ -6,17 +6,15 @@ use Prim.Native.Nat.{ℕ, ◌+◌, ◌-◌, ◌≤◌}
 use native.Mathlib.Omega.{arith}
 use lib.IntN.{ℤ}
 use lib.ListN.{length, drop, length-append, length-drop}
+use Rattle.std.specs.Prelude.{Some, None, Ok, Err}
 use Rattle.lists.proofs.Choice.{cond_all}
 use Rattle.runs.specs.Machine.{stops, Verdict, accepted, refused, Row, Entry, holds, bad, Span, widen, rerun, follow, before}
 use Rattle.runs.proofs.Ways.{out_all}
 use Rattle.rules.specs.declared.Command.{Command}
 use Rattle.rules.specs.declared.State.{State}
 use Rattle.rules.specs.declared.Refusal.{Refusal}
-use Rattle.rules.specs.declared.HoleAnswer.{HoleAnswer}
-use Rattle.rules.specs.declared.HoleAnswer.TheVariants as H
-use Rattle.rules.specs.declared.DiameterAnswer.{DiameterAnswer}
-use Rattle.rules.specs.declared.DiameterAnswer.TheVariants as D
 use Rattle.rules.specs.declared.Revision.{Revision}
+use Rattle.rules.specs.Results.{DiameterAnswer, HoleAnswer}
 use Rattle.rules.specs.Refusals.{file_too_long, too_many_lines, line_not_ended, line_too_long, forbidden_byte, no_such_form, out_of_range, wrong_phase, wrong_motion, declared_already, not_declared, no_tool_selected, impossible_arc, ends_too_soon, no_such_line, no_such_tool, holds_line_end, bad_table}
 use Rattle.rules.specs.Numbers.{max_lines, max_line, is_tool}
 use Rattle.rules.specs.Commands.{line_of}
@@ -42,13 +40,13 @@ Told P (accepted a) = Unit {0}
 Told P (refused e i) = P e i
 
 abbrev pub HoleTold : (Refusal → ℕ → Type 0) → HoleAnswer → Type 0
-HoleTold P (H.Makes h) = Unit {0}
-HoleTold P H.Nothing = Unit {0}
-HoleTold P (H.Refused e i) = P e i
+HoleTold P (Ok (Some h)) = Unit {0}
+HoleTold P (Ok None) = Unit {0}
+HoleTold P (Err r) = P r.refusal r.line
 
 abbrev pub DiameterTold : (Refusal → ℕ → Type 0) → DiameterAnswer → Type 0
-DiameterTold P (D.Is d) = Unit {0}
-DiameterTold P (D.Refused e i) = P e i
+DiameterTold P (Ok d) = Unit {0}
+DiameterTold P (Err r) = P r.refusal r.line
 
 -- of those of a line's bytes, where a column lies in the longest line; and of a step
 pub record OfLine (P : Refusal → Type 0) : Type 0 where

@@ -8,11 +8,12 @@ use borrow.Author.Tests.{le-leb, lt-leb, leb-true}
 use lib.Dec.{leb}
 use lib.IntN.{ℤ}
 use lib.ListN.{length}
+use Rattle.std.specs.Prelude.{Ok}
 use Rattle.lists.specs.Put.{put_at}
 use Rattle.runs.specs.Machine.{Verdict, accepted, refused, on_verdict}
 use Rattle.runs.proofs.Follow.{follows_follow, follow_follows}
 use Rattle.rules.specs.declared.Refusal.{Refusal}
-use Rattle.rules.specs.declared.Answer.TheVariants.{Done, Refused}
+use Rattle.rules.specs.Results.{refused_at}
 use Rattle.rules.specs.Refusals.{bad_table, no_room}
 use Rattle.rules.specs.State.{start, taken, has_ended, same_state}
 use Rattle.rules.specs.Rows.{entries_of, sizes_fit, Good}
@@ -45,7 +46,7 @@ module _ (t : List ℤ) (n : ℕ) (rs : Rows) where
 module _ (t : List ℤ) (n : ℕ) (b : List ℕ) where
   module _ (rs : Rows) (e : rows_of t n ≡ accepted rs) where
     module _ (h : length (text_of_rows rs) ≤ length b) where
-      pub write_accepts : write_answer t n b ≡ Done (length (text_of_rows rs))
+      pub write_accepts : write_answer t n b ≡ Ok (length (text_of_rows rs))
       unfolding write_answer
       write_accepts = rw (e, le-leb (length (text_of_rows rs)) (length b) h)
 
@@ -53,7 +54,7 @@ module _ (t : List ℤ) (n : ℕ) (b : List ℕ) where
       unfolding write_leaves
       write_writes = rw (e, le-leb (length (text_of_rows rs)) (length b) h)
 
-    pub write_short : length b < length (text_of_rows rs) → write_answer t n b ≡ Refused no_room 0
+    pub write_short : length b < length (text_of_rows rs) → write_answer t n b ≡ refused_at no_room 0
     unfolding write_answer
     write_short h = rw (e, lt-leb (length (text_of_rows rs)) (length b) h)
 
@@ -65,16 +66,16 @@ module _ (t : List ℤ) (n : ℕ) (b : List ℕ) where
 
   module _ (m : ℕ) where
     done_block : (rs : Rows) → rows_of t n ≡ accepted rs → (c : Bool) → leb (length (text_of_rows rs)) (length b) ≡ c
-        → cond c (Done (length (text_of_rows rs))) (Refused no_room 0) ≡ Done m → WriteDone m
+        → cond c (Ok (length (text_of_rows rs))) (refused_at no_room 0) ≡ Ok m → WriteDone m
     done_block rs e true w h =
         let d : length (text_of_rows rs) ≡ m = cc in
         record { rows = rs; verdict = e; counted = d; room = leb-true (length (text_of_rows rs)) (length b) w }
     done_block rs e false w h = absurd (let z : ◌≡◌ {A = ℕ} 0 1 = cc in omega arith)
 
-    done_rows : (v : Verdict Rows Refusal) → rows_of t n ≡ v → on_verdict v Refused (λ rs. in_block b (text_of_rows rs)) ≡ Done m → WriteDone m
+    done_rows : (v : Verdict Rows Refusal) → rows_of t n ≡ v → on_verdict v refused_at (λ rs. in_block b (text_of_rows rs)) ≡ Ok m → WriteDone m
     done_rows (accepted rs) e h = done_block rs e (leb (length (text_of_rows rs)) (length b)) refl h
     done_rows (refused a i) e h = absurd (let z : ◌≡◌ {A = ℕ} 0 1 = cc in omega arith)
 
-    pub write_done : write_answer t n b ≡ Done m → WriteDone m
+    pub write_done : write_answer t n b ≡ Ok m → WriteDone m
     unfolding write_answer
     write_done h = done_rows (rows_of t n) refl h

@@ -1,5 +1,4 @@
 pub mod Points
 pub mod Tools
 pub mod Words
-pub mod Letters
-pub mod Comments
+pub mod Lines

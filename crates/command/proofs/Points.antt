@@ -1,48 +1,34 @@
 -- X, a number, Y, a number, and A, a number after them: each way in which the form can fail, and the ranges after it.
 use mathlib.Core.Path.{◌≡◌, refl, sym, ap, ap₂, subst, ◌∙◌}
-use mathlib.Core.Bool.{Bool, true, false, not, cond}
+use mathlib.Core.Bool.{Bool, true, false, cond}
 use mathlib.Core.List.{List, [], ◌∷◌}
-use Prim.Native.Nat.{ℕ, ◌+◌, ◌^◌, ◌<◌, ◌≤◌}
+use Prim.Native.Nat.{ℕ, ◌+◌, ◌<◌, ◌≤◌}
 use Prim.Native.Char.{code}
 use native.Mathlib.Omega.{arith}
 use native.Mathlib.Numerals.{add-one}
-use borrow.Author.Tests.{not-true, not-false, eq-eqb, ne_eqb}
+use borrow.Author.Tests.{eq-eqb, ne_eqb}
 use lib.IntN.{ℤ}
-use lib.Signed.{mag}
-use mir.Syntax.{w32}
-use mir.Val.{to_z, of_z}
-use Rattle.points.proofs.Signed.{read_back}
 use lib.ListN.{length, drop, drop_of_length-le}
 use lib.Seq.{drop-cons, drop-drop}
+use Rattle.std.specs.Prelude.{Option, Some, None, Result, Ok, Err}
+use Rattle.points.specs.declared.Point.{Point}
+use Rattle.points.specs.declared.Arc.{Arc}
 use Rattle.lists.specs.Words.{bytes, starts_with}
 use Rattle.lists.proofs.Words.{begins}
-use Rattle.rules.specs.declared.LineAnswer.{LineAnswer}
+use Rattle.rules.specs.declared.Refusal.{Refusal}
+use Rattle.rules.specs.declared.Command.{Command}
 use Rattle.rules.specs.Refusals.{no_such_form, out_of_range}
-use Rattle.rules.specs.Numbers.{max_places, Decimal, on_number, signed_of, unsigned_of, is_coordinate, coordinate_of, is_size, millionths}
-use Rattle.rules.specs.Commands.{Form, Formed, is, no_form, at_end, point_form, arc_form, column_after, says, says_no, in_range, meaning_of, on_form}
+use Rattle.rules.specs.Numbers.{max_places, Decimal, NumberRead, on_number, signed_of, unsigned_of, is_coordinate, coordinate_of, is_size, millionths}
+use Rattle.rules.specs.Commands.{Form, Formed, is, no_form, at_end, point_form, arc_form, column_after, says, in_range}
 use Rattle.rules.proofs.Columns.{past_place, TailOf, signed_tail}
 use Rattle.rules.proofs.Ranges.{size_says}
 use Rattle.number.specs.declared.Written.{Written}
-use Rattle.number.specs.declared.Number.{Number}
-use Rattle.number.specs.declared.Number.TheVariants as W
-use Rattle.number.specs.declared.CoordinateRead.{CoordinateRead}
-use Rattle.number.specs.declared.CoordinateRead.TheVariants as N
-use Rattle.number.specs.declared.SizeRead.{SizeRead}
-use Rattle.number.specs.declared.SizeRead.TheVariants as S
 use Rattle.number.specs.Capped.{HeldAs, ReadsTo, number_at, decimal_of, coordinate_read, size_read}
 use Rattle.number.proofs.Runs.{stands_within}
 use Rattle.number.proofs.Readings.{signed_reads, unsigned_reads, none_reads}
 use Rattle.number.proofs.Ranges.{coordinate_exact, size_exact}
 use Rattle.command.specs.declared.Pair.{Pair}
-use Rattle.command.specs.declared.PairRead.{PairRead}
-use Rattle.command.specs.declared.PairRead.TheVariants.{Got, None}
-use Rattle.command.specs.declared.Placed.{Placed}
-use Rattle.command.specs.declared.Placed.TheVariants.{Is, Out}
-use Rattle.command.specs.declared.Pointed.{Pointed}
-use Rattle.command.specs.declared.Pointed.TheVariants as P
-use Rattle.command.specs.declared.Turned.{Turned}
-use Rattle.command.specs.declared.Turned.TheVariants as T
-use Rattle.command.specs.Parts.{HasPair, PairAt, placed, point_kind, pointed, point_command, turned, turn_command}
+use Rattle.command.specs.Parts.{number_behind, HasPair, PairAt, placed, last_size, HasSize, SizeAt, answer_of, PointLine, ArcLine}
 
 -- ---- the line's end
 
@@ -55,42 +41,35 @@ module _ (s : List ℕ) (n : ℕ) (f : Form) where
 
 -- ---- a diameter or a radius to the line's end
 
-abbrev last_size : List ℕ → (Decimal → Form) → Formed
-last_size l f = on_number (unsigned_of l) no_form (λ d rest. at_end rest (f d))
+pub size_ends : (s : List ℕ) (at : ℕ) {r : Option Written} → r ≡ number_at (at + 1) (length s) (unsigned_of (drop at s)) → {w : Written} → r ≡ Some w → w.next ≡ length s → HasSize s at w
+size_ends s at e {w} g n =
+    let read : ReadsTo s (at + 1) (unsigned_of (drop at s)) w = unsigned_reads s at w e g in
+    record {
+      size_is = read.decimal;
+      form = λ f. rw read.reading (ended_is s w.next (f read.decimal) n);
+      column_is = read.column_is;
+      holds = read.holds;
+    }
 
-module _ (s : List ℕ) (at : ℕ) {r : Number} (e : r ≡ number_at (at + 1) (length s) (unsigned_of (drop at s))) where
-  pub size_none : r ≡ W.None → (f : Decimal → Form) → last_size (drop at s) f ≡ no_form
-  size_none g f = rw (none_reads (at + 1) (length s) (unsigned_of (drop at s)) e g)
-
-  module _ {d : Written} (g : r ≡ W.Got d) where
-    pub size_read_lem : ReadsTo s (at + 1) (unsigned_of (drop at s)) d
-    size_read_lem = unsigned_reads s at d e g
-
-    pub size_goes_on : (d.next ≡ length s → ⊥) → (f : Decimal → Form) → last_size (drop at s) f ≡ no_form
-    size_goes_on n f = rw size_read_lem.reading (ended_no s d.next (f size_read_lem.decimal) size_read_lem.within n)
-
-    pub size_ends : d.next ≡ length s → (f : Decimal → Form) → last_size (drop at s) f ≡ is (f size_read_lem.decimal)
-    size_ends n f = rw size_read_lem.reading (ended_is s d.next (f size_read_lem.decimal) n)
-
-    pub size_same : size_read d.column (decimal_of d) ≡ size_read (at + 1) size_read_lem.decimal
-    size_same = size_exact d.column d size_read_lem.decimal size_read_lem.holds ∙ ap (λ (c : ℕ). size_read c size_read_lem.decimal) size_read_lem.column_is
+pub size_same : {s : List ℕ} {at : ℕ} {w : Written} (h : HasSize s at w) → size_read w.column (decimal_of w) ≡ size_read (at + 1) h.size_is
+size_same {w = w} h = size_exact w.column w h.size_is h.holds ∙ ap (λ (c : ℕ). size_read c h.size_is) h.column_is
 
 -- a number in range has few places
-pub size_places : (c : ℕ) (d : Decimal) {n : ℕ} {r : SizeRead} → r ≡ size_read c d → r ≡ S.Is n → d.places ≤ max_places
+pub size_places : (c : ℕ) (d : Decimal) {n : ℕ} {r : Result ℕ Refusal} → r ≡ size_read c d → r ≡ Ok n → d.places ≤ max_places
 unfolding size_read
 size_places c d {n} e g = by (is_size d) refl (sym e ∙ g)
   where
-    by : (t : Bool) → is_size d ≡ t → cond t (S.Is (millionths d)) (S.Out (out_of_range c)) ≡ S.Is n → d.places ≤ max_places
+    by : (t : Bool) → is_size d ≡ t → cond t (Ok (millionths d)) (Err (out_of_range c)) ≡ Ok n → d.places ≤ max_places
     by true h _ = (size_says d h).0
-    by false _ q = absurd (let z : ◌≡◌ {A = ℕ} 0 1 = cc in omega arith)
+    by false _ q = cc
 
 -- ---- the columns behind letters
 
 module _ (s : List ℕ) (at : ℕ) where
   -- a letter that stands at a place is found there
-  pub column_here : (b : ℕ) → starts_with (drop at s) (b ∷ []) ≡ true → column_after at (drop at s) b ≡ at + 2
+  pub column_here : (b : ℕ) → starts_with (drop at s) (b ∷ []) ≡ true → column_after at (drop at s) b ≡ at + 1 + 1
   unfolding column_after
-  column_here b t = begins (drop at s) (b ∷ []) t (λ z. column_after at z b ≡ at + 2) (rw (eq-eqb b b refl))
+  column_here b t = begins (drop at s) (b ∷ []) t (λ z. column_after at z b ≡ at + 1 + 1) (rw (eq-eqb b b refl) (omega arith))
 
   -- any other is looked for behind it
   column_next : (b c : ℕ) → starts_with (drop at s) (b ∷ []) ≡ true → (b ≡ c → ⊥) → column_after at (drop at s) c ≡ column_after (at + 1) (drop (at + 1) s) c
@@ -104,170 +83,178 @@ module _ (s : List ℕ) (at : ℕ) where
       → column_after at (drop at s) c ≡ column_after w.next (drop w.next s) c
   column_past c d w h k r = past_place s at w.next c (subst (TailOf (drop at s)) r.reading (signed_tail (drop at s))) k r.within h
 
--- ---- X, a number, Y, a number
+-- ---- a letter and a number behind it
 
-module _ (s : List ℕ) (at : ℕ) {t : Bool} (et : t ≡ starts_with (drop at s) (bytes "X")) where
-  pub pair_no_x : not t ≡ true → PairAt s at None
+abbrev letter_form : ℕ → List ℕ → (Decimal → List ℕ → Formed) → Formed
+letter_form b l g = cond (starts_with l (b ∷ [])) (on_number (signed_of (drop 1 l)) no_form g) no_form
+
+record Behind (s : List ℕ) (at b : ℕ) (w : Written) : Type 0 where
+  decimal : Decimal
+  form : (g : Decimal → List ℕ → Formed) → letter_form b (drop at s) g ≡ g decimal (drop w.next s)
+  column_is : w.column ≡ column_after at (drop at s) b
+  past : (c : ℕ) → (b ≡ c → ⊥) → code "9" < c → column_after at (drop at s) c ≡ column_after w.next (drop w.next s) c
+  holds : HeldAs w decimal
+  within : w.next ≤ length s
+
+module _ (s : List ℕ) (at b : ℕ) {r : Option Written} (e : r ≡ number_behind s at b) where
+  behind_none : r ≡ None → (g : Decimal → List ℕ → Formed) → letter_form b (drop at s) g ≡ no_form
+  behind_none n g = by (starts_with (drop at s) (b ∷ [])) (sym e ∙ n)
+    where
+      by : (t : Bool) → cond t (number_at (at + 1 + 1) (length s) (signed_of (drop (at + 1) s))) None ≡ None
+          → cond t (on_number (signed_of (drop 1 (drop at s))) no_form g) no_form ≡ no_form
+      by true q = rw (drop-drop 1 at s, none_reads (at + 1 + 1) (length s) (signed_of (drop (at + 1) s)) refl q)
+      by false q = refl
+
+  behind_some : {w : Written} → r ≡ Some w → Behind s at b w
+  behind_some {w} n = by (starts_with (drop at s) (b ∷ [])) refl (sym e ∙ n)
+    where
+      by : (t : Bool) → starts_with (drop at s) (b ∷ []) ≡ t → cond t (number_at (at + 1 + 1) (length s) (signed_of (drop (at + 1) s))) None ≡ Some w → Behind s at b w
+      by true t q =
+          let read : ReadsTo s (at + 1 + 1) (signed_of (drop (at + 1) s)) w = signed_reads s (at + 1) w refl q in
+          record {
+            decimal = read.decimal;
+            form = λ g. rw (t, drop-drop 1 at s) (ap (λ (z : NumberRead). on_number z no_form g) read.reading);
+            column_is = read.column_is ∙ sym (column_here s at b t);
+            past = λ c k h. column_next s at b c t k ∙ column_past s (at + 1) c (at + 1 + 1) w h (omega (arith, stands_within s at b (sym t) refl)) read;
+            holds = read.holds;
+            within = read.within;
+          }
+      by false _ q = cc
+
+module _ (s : List ℕ) (at : ℕ) {r : Option Written} (er : r ≡ number_behind s at (code "X")) where
+  pub pair_no_x : r ≡ None → PairAt s at None
   unfolding point_form
-  pair_no_x h f = rw (sym et ∙ not-true t h)
+  pair_no_x e f = behind_none s at (code "X") er e _
 
-  module _ (h : not t ≡ false) {r : Number} (er : r ≡ number_at (at + 1 + 1) (length s) (signed_of (drop (at + 1) s))) where
-    pub pair_no_first : r ≡ W.None → PairAt s at None
+  module _ {x : Written} (ex : r ≡ Some x) {q : Option Written} (eq : q ≡ number_behind s x.next (code "Y")) where
+    first : Behind s at (code "X") x
+    first = behind_some s at (code "X") er ex
+
+    pub pair_no_y : q ≡ None → PairAt s at None
     unfolding point_form
-    pair_no_first e f = rw (sym et ∙ not-false t h, drop-drop 1 at s, none_reads (at + 1 + 1) (length s) (signed_of (drop (at + 1) s)) er e)
+    pair_no_y e f = first.form _ ∙ behind_none s x.next (code "Y") eq e _
 
-    module _ {x : Written} (ex : r ≡ W.Got x) {u : Bool} (eu : u ≡ starts_with (drop x.next s) (bytes "Y")) where
-      first : ReadsTo s (at + 1 + 1) (signed_of (drop (at + 1) s)) x
-      first = signed_reads s (at + 1) x er ex
+    pub pair_is : {y : Written} → q ≡ Some y → HasPair s at (record { x = x; y = y })
+    unfolding point_form
+    pair_is {y} ey =
+        let second : Behind s x.next (code "Y") y = behind_some s x.next (code "Y") eq ey in
+        record {
+          x_is = first.decimal;
+          y_is = second.decimal;
+          form = λ f. first.form _ ∙ second.form _;
+          x_column = first.column_is;
+          y_column = second.column_is ∙ sym (first.past (code "Y") (omega arith) (omega arith));
+          past = first.past (code "A") (omega arith) (omega arith) ∙ second.past (code "A") (omega arith) (omega arith);
+          x_holds = first.holds;
+          y_holds = second.holds;
+          within = second.within;
+        }
 
-      pub pair_no_y : not u ≡ true → PairAt s at None
-      unfolding point_form
-      pair_no_y g f = rw (sym et ∙ not-false t h, drop-drop 1 at s, first.reading, sym eu ∙ not-true u g)
+-- ---- the place of a pair
 
-      module _ (g : not u ≡ false) {q : Number} (eq : q ≡ number_at (x.next + 1 + 1) (length s) (signed_of (drop (x.next + 1) s))) where
-        after_y : (f : Decimal → Decimal → List ℕ → Formed) → point_form (drop at s) f ≡ on_number (signed_of (drop (x.next + 1) s)) no_form (f first.decimal)
-        unfolding point_form
-        after_y f = rw (sym et ∙ not-false t h, drop-drop 1 at s, first.reading, sym eu ∙ not-false u g, drop-drop 1 x.next s)
-
-        pub pair_no_second : q ≡ W.None → PairAt s at None
-        pair_no_second e f = rw (after_y f, none_reads (x.next + 1 + 1) (length s) (signed_of (drop (x.next + 1) s)) eq e)
-
-        -- where letters behind the first number are found
-        past_first : (c : ℕ) → (code "X" ≡ c → ⊥) → code "9" < c → column_after at (drop at s) c ≡ column_after x.next (drop x.next s) c
-        past_first c n k =
-            column_next s at (code "X") c (sym et ∙ not-false t h) n
-            ∙ column_past s (at + 1) c (at + 1 + 1) x k (omega (arith, stands_within s at (code "X") et (not-false t h))) first
-
-        pub pair_is : {y : Written} → q ≡ W.Got y → HasPair s at (record { x = x; y = y })
-        pair_is {y} e =
-            let second = signed_reads s (x.next + 1) y eq e in
-            let y_stands = sym eu ∙ not-false u g in
-            record {
-              x_is = first.decimal;
-              y_is = second.decimal;
-              form = λ f. rw (after_y f, second.reading);
-              x_column = first.column_is ∙ omega arith ∙ sym (column_here s at (code "X") (sym et ∙ not-false t h));
-              y_column = second.column_is ∙ omega arith ∙ sym (past_first (code "Y") (omega arith) (omega arith) ∙ column_here s x.next (code "Y") y_stands);
-              past =
-                  past_first (code "A") (omega arith) (omega arith) ∙ column_next s x.next (code "Y") (code "A") y_stands (omega arith)
-                  ∙ column_past s (x.next + 1) (code "A") (x.next + 1 + 1) y (omega arith) (omega (arith, stands_within s x.next (code "Y") eu (not-false u g))) second;
-              x_holds = first.holds;
-              y_holds = second.holds;
-              within = second.within;
-            }
-
--- ---- the place of a pair: numbers of an answer are held in 32 bits
-
-abbrev place_of : Pair → Placed
+abbrev place_of : Pair → Result Point Refusal
 place_of p = placed (coordinate_read p.x.column (decimal_of p.x)) (coordinate_read p.y.column (decimal_of p.y))
 
-pub place_is : {a b c d : CoordinateRead} (x y : ℤ) → mag x < 2 ^ 31 → mag y < 2 ^ 31 → c ≡ a → c ≡ N.Is x → d ≡ b → d ≡ N.Is y
-    → Is (record { x = to_z w32 (of_z w32 x); y = to_z w32 (of_z w32 y) }) ≡ placed a b
-place_is x y h k e p g q = (λ i. Is (record { x = read_back x h i; y = read_back y k i })) ∙ ap₂ placed (sym p ∙ e) (sym q ∙ g)
+abbrev coordinate_by : Bool → ℤ → ℕ → Result ℤ Refusal
+coordinate_by b x c = cond b (Ok x) (Err (out_of_range c))
 
--- ---- what they say
+abbrev size_by : Bool → ℕ → ℕ → Result ℕ Refusal
+size_by b n c = cond b (Ok n) (Err (out_of_range c))
 
-abbrev point_answer : Pointed → Placed → LineAnswer
-point_answer k (Is p) = says (point_command k p)
-point_answer k (Out e) = says_no e
-
-abbrev coordinate_by : Bool → ℤ → ℕ → CoordinateRead
-coordinate_by b x c = cond b (N.Is x) (N.Out (out_of_range c))
-
-abbrev size_by : Bool → ℕ → ℕ → SizeRead
-size_by b n c = cond b (S.Is n) (S.Out (out_of_range c))
-
-point_by : (k : Pointed) (a b : Bool) (x y : ℤ) (c d : ℕ)
-    → in_range a c (in_range b d (says (point_command k (record { x = x; y = y })))) ≡ point_answer k (placed (coordinate_by a x c) (coordinate_by b y d))
+point_by : (k : Point → Command) (a b : Bool) (x y : ℤ) (c d : ℕ)
+    → in_range a c (in_range b d (says (k (record { x = x; y = y })))) ≡ answer_of k (placed (coordinate_by a x c) (coordinate_by b y d))
 unfolding in_range
 point_by k true true x y c d = refl
 point_by k true false x y c d = refl
 point_by k false b x y c d = refl
 
-point_means : (after : ℕ → ℕ) (k : Pointed) (x y : Decimal)
-    → meaning_of after (point_kind k x y) ≡ point_answer k (placed (coordinate_read (after (code "X")) x) (coordinate_read (after (code "Y")) y))
-unfolding meaning_of coordinate_read
-point_means after P.G00 x y = point_by P.G00 (is_coordinate x) (is_coordinate y) (coordinate_of x) (coordinate_of y) (after (code "X")) (after (code "Y"))
-point_means after P.Hit x y = point_by P.Hit (is_coordinate x) (is_coordinate y) (coordinate_of x) (coordinate_of y) (after (code "X")) (after (code "Y"))
-point_means after P.G01 x y = point_by P.G01 (is_coordinate x) (is_coordinate y) (coordinate_of x) (coordinate_of y) (after (code "X")) (after (code "Y"))
+-- a point and a radius of d decimals
+abbrev arc_made : ℕ → Result Point Refusal → Result ℕ Refusal → Result Arc Refusal
+arc_made d (Ok p) (Ok r) = Ok (record { to = p; radius = r; decimals = d })
+arc_made d (Ok p) (Err e) = Err e
+arc_made d (Err e) z = Err e
 
--- d decimals in the radius
-abbrev arc_answer : Turned → ℕ → Placed → SizeRead → LineAnswer
-arc_answer k d (Is p) (S.Is r) = says (turn_command k (record { to = p; radius = r; decimals = d }))
-arc_answer k d (Is p) (S.Out e) = says_no e
-arc_answer k d (Out e) z = says_no e
+arc_by : (k : Arc → Command) (a b c : Bool) (x y : ℤ) (r d p q t : ℕ)
+    → in_range a p (in_range b q (in_range c t (says (k (record { to = record { x = x; y = y }; radius = r; decimals = d })))))
+    ≡ answer_of k (arc_made d (placed (coordinate_by a x p) (coordinate_by b y q)) (size_by c r t))
+unfolding in_range
+arc_by k true true true x y r d p q t = refl
+arc_by k true true false x y r d p q t = refl
+arc_by k true false c x y r d p q t = refl
+arc_by k false b c x y r d p q t = refl
 
-module _ (after : ℕ → ℕ) where
-  arc_by : (k : Turned) (a b c : Bool) (x y : ℤ) (r d : ℕ)
-      → in_range a (after (code "X")) (in_range b (after (code "Y"))
-      (in_range c (after (code "A")) (says (turn_command k (record { to = record { x = x; y = y }; radius = r; decimals = d })))))
-      ≡ arc_answer k d (placed (coordinate_by a x (after (code "X"))) (coordinate_by b y (after (code "Y")))) (size_by c r (after (code "A")))
-  unfolding in_range
-  arc_by k true true true x y r d = refl
-  arc_by k true true false x y r d = refl
-  arc_by k true false c x y r d = refl
-  arc_by k false b c x y r d = refl
+module _ {s : List ℕ} {at : ℕ} {p : Pair} (h : HasPair s at p) where
+  abbrev after : ℕ → ℕ
+  after = column_after at (drop at s)
 
-  arc_means : (k : Turned) (x y r : Decimal)
-      → meaning_of after (turned k x y r)
-      ≡ arc_answer k r.places (placed (coordinate_read (after (code "X")) x) (coordinate_read (after (code "Y")) y)) (size_read (after (code "A")) r)
-  unfolding meaning_of coordinate_read size_read
-  arc_means T.G02 x y r = arc_by T.G02 (is_coordinate x) (is_coordinate y) (is_size r) (coordinate_of x) (coordinate_of y) (millionths r) r.places
-  arc_means T.G03 x y r = arc_by T.G03 (is_coordinate x) (is_coordinate y) (is_size r) (coordinate_of x) (coordinate_of y) (millionths r) r.places
+  same_coordinate : (w : Written) (d : Decimal) (c : ℕ) → HeldAs w d → w.column ≡ c → coordinate_read w.column (decimal_of w) ≡ coordinate_read c d
+  same_coordinate w d c k e = coordinate_exact w.column w d k ∙ ap (λ (z : ℕ). coordinate_read z d) e
 
-module _ (s : List ℕ) (at : ℕ) {r : PairRead} (er : PairAt s at r) where
-  pub pair_none : r ≡ None → (f : Decimal → Decimal → List ℕ → Formed) → says_no no_such_form ≡ on_form (column_after at (drop at s)) (point_form (drop at s) f)
-  pair_none e f = rw (subst (PairAt s at) e er f)
+  same_place : place_of p ≡ placed (coordinate_read (after (code "X")) h.x_is) (coordinate_read (after (code "Y")) h.y_is)
+  same_place = ap₂ placed (same_coordinate p.x h.x_is _ h.x_holds h.x_column) (same_coordinate p.y h.y_is _ h.y_holds h.y_column)
 
-  module _ {p : Pair} (ep : r ≡ Got p) where
-    pair : HasPair s at p
-    pair = subst (PairAt s at) ep er
+  -- a point alone
+  pub point_goes_on : (p.y.next ≡ length s → ⊥) → PointLine s at (Err no_such_form)
+  unfolding PointLine
+  point_goes_on n k f m = rw (h.form _, ended_no s p.y.next (f h.x_is h.y_is) h.within n)
 
-    same_coordinate : (w : Written) (d : Decimal) (c : ℕ) → HeldAs w d → w.column ≡ c → coordinate_read w.column (decimal_of w) ≡ coordinate_read c d
-    same_coordinate w d c h e = coordinate_exact w.column w d h ∙ ap (λ (z : ℕ). coordinate_read z d) e
+  pub point_ends : p.y.next ≡ length s → {z : Result Point Refusal} → z ≡ place_of p → PointLine s at z
+  unfolding PointLine coordinate_read
+  point_ends n e k f m =
+      rw (h.form _, ended_is s p.y.next (f h.x_is h.y_is) n, e, same_place)
+      (sym (m after h.x_is h.y_is ∙ point_by k (is_coordinate h.x_is) (is_coordinate h.y_is) (coordinate_of h.x_is) (coordinate_of h.y_is) (after (code "X")) (after (code "Y"))))
 
-    same_place : place_of p
-        ≡ placed (coordinate_read (column_after at (drop at s) (code "X")) pair.x_is) (coordinate_read (column_after at (drop at s) (code "Y")) pair.y_is)
-    same_place =
-        ap₂ placed (same_coordinate p.x pair.x_is _ pair.x_holds pair.x_column) (same_coordinate p.y pair.y_is _ pair.y_holds pair.y_column)
+  -- a point and a radius
+  pub arc_no_a : {t : Bool} → t ≡ starts_with (drop p.y.next s) (bytes "A") → t ≡ false → ArcLine s at (Err no_such_form)
+  unfolding ArcLine arc_form
+  arc_no_a et g k f m = rw (h.form _, sym et ∙ g)
 
-    -- a point alone
-    module _ (k : Pointed) where
-      pub point_goes_on : (p.y.next ≡ length s → ⊥) → says_no no_such_form ≡ on_form (column_after at (drop at s)) (point_form (drop at s) (pointed k))
-      point_goes_on n = rw (pair.form (pointed k), ended_no s p.y.next (point_kind k pair.x_is pair.y_is) pair.within n)
+  module _ {t : Bool} (et : t ≡ starts_with (drop p.y.next s) (bytes "A")) (g : t ≡ true) where
+    after_a : (f : Decimal → Decimal → Decimal → Form) → arc_form (drop at s) f ≡ last_size (drop (p.y.next + 1) s) (f h.x_is h.y_is)
+    unfolding arc_form
+    after_a f = rw (h.form _, sym et ∙ g, drop-drop 1 p.y.next s)
 
-      pub point_ends : p.y.next ≡ length s → {z v : Placed} → z ≡ place_of p → z ≡ v → point_answer k v ≡ on_form (column_after at (drop at s)) (point_form (drop at s) (pointed k))
-      point_ends n e g =
-          rw (pair.form (pointed k), ended_is s p.y.next (point_kind k pair.x_is pair.y_is) n, ← g, e, same_place)
-          (sym (point_means (column_after at (drop at s)) k pair.x_is pair.y_is))
+    pub arc_no_radius : SizeAt s (p.y.next + 1) None → ArcLine s at (Err no_such_form)
+    unfolding ArcLine
+    arc_no_radius e k f m = rw (after_a f, e (f h.x_is h.y_is))
 
-    -- a point and a radius
-    module _ (k : Turned) {t : Bool} (et : t ≡ starts_with (drop p.y.next s) (bytes "A")) where
-      pub arc_no_a : not t ≡ true → says_no no_such_form ≡ on_form (column_after at (drop at s)) (arc_form (drop at s) (turned k))
-      unfolding arc_form
-      arc_no_a h = rw (pair.form _, sym et ∙ not-true t h)
+    module _ {a : Written} (r : HasSize s (p.y.next + 1) a) where
+      radius_column : after (code "A") ≡ p.y.next + 1 + 1
+      radius_column = h.past ∙ column_here s p.y.next (code "A") (sym et ∙ g)
 
-      module _ (h : not t ≡ false) {q : Number} (eq : q ≡ number_at (p.y.next + 1 + 1) (length s) (unsigned_of (drop (p.y.next + 1) s))) where
-        after_a : arc_form (drop at s) (turned k) ≡ last_size (drop (p.y.next + 1) s) (turned k pair.x_is pair.y_is)
-        unfolding arc_form
-        after_a = rw (pair.form _, sym et ∙ not-false t h, drop-drop 1 p.y.next s)
+      same_radius : size_read a.column (decimal_of a) ≡ size_read (after (code "A")) r.size_is
+      same_radius = size_same r ∙ ap (λ (c : ℕ). size_read c r.size_is) (sym radius_column)
 
-        radius_column : column_after at (drop at s) (code "A") ≡ p.y.next + 1 + 1
-        radius_column = pair.past ∙ column_here s p.y.next (code "A") (sym et ∙ not-false t h) ∙ omega arith
+      arc_ends : {v : Result Point Refusal} {w : Result ℕ Refusal} → place_of p ≡ v → size_read a.column (decimal_of a) ≡ w → ArcLine s at (arc_made a.places v w)
+      unfolding ArcLine coordinate_read size_read
+      arc_ends e q k f m =
+          rw (after_a f, r.form (f h.x_is h.y_is), ← e, same_place, ← q, same_radius, r.holds.places_is)
+          (sym (m after h.x_is h.y_is r.size_is
+          ∙ arc_by k (is_coordinate h.x_is) (is_coordinate h.y_is) (is_size r.size_is) (coordinate_of h.x_is) (coordinate_of h.y_is) (millionths r.size_is) r.size_is.places
+          (after (code "X")) (after (code "Y")) (after (code "A"))))
 
-        pub arc_no_radius : q ≡ W.None → says_no no_such_form ≡ on_form (column_after at (drop at s)) (arc_form (drop at s) (turned k))
-        arc_no_radius e = rw (after_a, size_none s (p.y.next + 1) eq e (turned k pair.x_is pair.y_is))
+      module _ {z : Result Point Refusal} (ez : z ≡ place_of p) where
+        pub arc_no_place : {e : Refusal} → z ≡ Err e → ArcLine s at (Err e)
+        arc_no_place g = arc_ends (sym ez ∙ g) refl
 
-        module _ {a : Written} (ea : q ≡ W.Got a) where
-          pub arc_goes_on : (a.next ≡ length s → ⊥) → says_no no_such_form ≡ on_form (column_after at (drop at s)) (arc_form (drop at s) (turned k))
-          arc_goes_on n = rw (after_a, size_goes_on s (p.y.next + 1) eq ea n (turned k pair.x_is pair.y_is))
+        module _ {to : Point} (gz : z ≡ Ok to) {w : Result ℕ Refusal} (ew : w ≡ size_read a.column (decimal_of a)) where
+          pub arc_no_size : {e : Refusal} → w ≡ Err e → ArcLine s at (Err e)
+          arc_no_size f = arc_ends (sym ez ∙ gz) (sym ew ∙ f)
 
-          abbrev radius_read : ReadsTo s (p.y.next + 1 + 1) (unsigned_of (drop (p.y.next + 1) s)) a
-          radius_read = size_read_lem s (p.y.next + 1) eq ea
+          pub arc_is : {n : ℕ} → w ≡ Ok n → ArcLine s at (Ok (record { to = to; radius = n; decimals = a.places }))
+          arc_is f = arc_ends (sym ez ∙ gz) (sym ew ∙ f)
 
-          pub arc_ends : a.next ≡ length s → {z v : Placed} → z ≡ place_of p → z ≡ v → {w y : SizeRead} → w ≡ size_read a.column (decimal_of a) → w ≡ y
-              → arc_answer k a.places v y ≡ on_form (column_after at (drop at s)) (arc_form (drop at s) (turned k))
-          arc_ends n {v = v} e g {y = y} ew gw =
-              ap (λ (d : ℕ). arc_answer k d v y) radius_read.holds.places_is
-              ∙ rw (after_a, size_ends s (p.y.next + 1) eq ea n (turned k pair.x_is pair.y_is), ← g, e, same_place, ← gw, ew, size_same s (p.y.next + 1) eq ea, ← radius_column)
-              (sym (arc_means (column_after at (drop at s)) k pair.x_is pair.y_is radius_read.decimal))
+module _ (s : List ℕ) (at : ℕ) (h : PairAt s at None) where
+  pub point_none : PointLine s at (Err no_such_form)
+  unfolding PointLine
+  point_none k f m = rw (h _)
+
+  pub arc_none : ArcLine s at (Err no_such_form)
+  unfolding ArcLine arc_form
+  arc_none k f m = rw (h _)
+
+pub ruleset pairs = (pair_no_x, pair_no_y, pair_is)
+
+pub ruleset points = (point_none, point_goes_on, point_ends)
+
+pub ruleset arcs = (arc_none, arc_no_a, arc_no_radius, arc_no_place, arc_no_size, arc_is, size_places)

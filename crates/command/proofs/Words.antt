@@ -1,76 +1,50 @@
--- A line that is a word: the loop that compares, and the form of such a line.
-use mathlib.Core.Path.{◌≡◌, refl, sym, ap}
-use mathlib.Core.Bool.{Bool, true, false, ◌&&◌, cond, and-false}
-use mathlib.Core.List.{List, [], ◌∷◌}
-use Prim.Native.Nat.{ℕ, suc, ◌+◌, ◌-◌, ◌<◌, ◌≤◌}
-use native.Mathlib.Omega.{arith}
-use native.Mathlib.Numerals.{add-one}
-use borrow.Author.Tests.{eq-eqb, ne_eqb}
-use lib.Dec.{eqb}
-use lib.ListN.{length, get_or, drop, drop_of_length-le, length-drop}
-use lib.Seq.{drop-cons}
-use Rattle.lists.specs.Words.{starts_with}
+-- A line that is a word.
+use mathlib.Core.Path.{◌≡◌, refl, sym, subst}
+use mathlib.Core.List.{List}
+use Prim.Native.Nat.{ℕ}
+use lib.ListN.{length}
+use Rattle.std.proofs.lemmas.Slice.Eq.{HasBytesAt, text_from_reads}
+use Rattle.lists.specs.Words.{bytes, starts_with}
 use Rattle.rules.specs.declared.Command.{Command}
-use Rattle.rules.specs.Refusals.{no_such_form}
-use Rattle.rules.specs.Commands.{Form, is, no_form, at_end, says, says_no, meaning_of, on_form}
-use Rattle.command.specs.Parts.{same, word}
+use Rattle.rules.specs.declared.Command.TheVariants as K
+use Rattle.rules.specs.declared.Revision.{Revision}
+use Rattle.rules.specs.Commands.{form_of, says, meaning_of, command_of}
 
--- ---- the loop
+module _ (s : List ℕ) where
+  -- the word w, byte by byte, and the command k that it is
+  word_is : (w : List ℕ) (k : Command) → ((rev : Revision) → says k ≡ command_of rev w) → length s ≡ length w → HasBytesAt s 0 w → (rev : Revision) → says k ≡ command_of rev s
+  word_is w k h n b rev = subst (λ (l : List ℕ). says k ≡ command_of rev l) (sym (text_from_reads s w n b)) (h rev)
 
-same_length : (l w : List ℕ) → (length l ≡ length w → ⊥) → same l w ≡ false
-unfolding same
-same_length [] [] h = absurd (h refl)
-same_length [] (b ∷ w) h = refl
-same_length (a ∷ l) [] h = refl
-same_length (a ∷ l) (b ∷ w) h = rw (same_length l w (λ e. h (ap suc e)), and-false)
+  pub m48_is : length s ≡ length (bytes "M48") → HasBytesAt s 0 (bytes "M48") → (rev : Revision) → says K.M48 ≡ command_of rev s
+  unfolding command_of form_of starts_with meaning_of
+  m48_is = word_is (bytes "M48") K.M48 (λ rev. refl)
 
-same_empty : (w : List ℕ) → eqb (length w) 0 ≡ same [] w
-unfolding same
-same_empty [] = refl
-same_empty (b ∷ w) = ne_eqb (suc (length w)) 0 (omega arith)
+  pub metric_is : length s ≡ length (bytes "METRIC") → HasBytesAt s 0 (bytes "METRIC") → (rev : Revision) → says K.Metric ≡ command_of rev s
+  unfolding command_of form_of starts_with meaning_of
+  metric_is = word_is (bytes "METRIC") K.Metric (λ rev. refl)
 
-module _ (s w : List ℕ) (at : ℕ) where
-  pub same_past : length s < at → eqb (length w) 0 ≡ same (drop at s) w
-  same_past h = rw (drop_of_length-le s {i = at} (omega arith)) (same_empty w)
+  pub inch_is : length s ≡ length (bytes "INCH") → HasBytesAt s 0 (bytes "INCH") → (rev : Revision) → says K.Inch ≡ command_of rev s
+  unfolding command_of form_of starts_with meaning_of
+  inch_is = word_is (bytes "INCH") K.Inch (λ rev. refl)
 
-  pub same_other : (length s - at ≡ length w → ⊥) → false ≡ same (drop at s) w
-  same_other h = sym (same_length (drop at s) w (λ e. h (omega (arith, length-drop at s))))
+  pub percent_is : length s ≡ length (bytes "%") → HasBytesAt s 0 (bytes "%") → (rev : Revision) → says K.Percent ≡ command_of rev s
+  unfolding command_of form_of starts_with meaning_of
+  percent_is = word_is (bytes "%") K.Percent (λ rev. refl)
 
-  -- i bytes were compared
-  module _ (i : ℕ) (e : same (drop (at + i) s) (drop i w) ≡ same (drop at s) w) where
-    pub same_end : length s ≤ at + i → length w ≤ i → true ≡ same (drop at s) w
-    unfolding same
-    same_end h k = rw (← e, drop_of_length-le s h, drop_of_length-le w k)
+  pub g05_is : length s ≡ length (bytes "G05") → HasBytesAt s 0 (bytes "G05") → (rev : Revision) → says K.G05 ≡ command_of rev s
+  unfolding command_of form_of starts_with meaning_of
+  g05_is = word_is (bytes "G05") K.G05 (λ rev. refl)
 
-    module _ (h : at + i < length s) (k : i < length w) where
-      pub same_turn : get_or s (at + i) 0 ≡ get_or w i 0 → same (drop (at + (i + 1)) s) (drop (i + 1) w) ≡ same (drop at s) w
-      unfolding same
-      same_turn g =
-          let n : at + suc i ≡ suc (at + i) = omega arith in
-          rw (← e, add-one i, n, drop-cons s (at + i) 0 h, drop-cons w i 0 k, eq-eqb (get_or s (at + i) 0) (get_or w i 0) g)
+  pub m15_is : length s ≡ length (bytes "M15") → HasBytesAt s 0 (bytes "M15") → (rev : Revision) → says K.M15 ≡ command_of rev s
+  unfolding command_of form_of starts_with meaning_of
+  m15_is = word_is (bytes "M15") K.M15 (λ rev. refl)
 
-      pub same_no : (get_or s (at + i) 0 ≡ get_or w i 0 → ⊥) → false ≡ same (drop at s) w
-      unfolding same
-      same_no g = rw (← e, drop-cons s (at + i) 0 h, drop-cons w i 0 k, ne_eqb (get_or s (at + i) 0) (get_or w i 0) g)
+  pub m16_is : length s ≡ length (bytes "M16") → HasBytesAt s 0 (bytes "M16") → (rev : Revision) → says K.M16 ≡ command_of rev s
+  unfolding command_of form_of starts_with meaning_of
+  m16_is = word_is (bytes "M16") K.M16 (λ rev. refl)
 
--- ---- the form
+  pub m30_is : length s ≡ length (bytes "M30") → HasBytesAt s 0 (bytes "M30") → (rev : Revision) → says K.M30 ≡ command_of rev s
+  unfolding command_of form_of starts_with meaning_of
+  m30_is = word_is (bytes "M30") K.M30 (λ rev. refl)
 
-word_form : (l w : List ℕ) (f : Form) → cond (starts_with l w) (at_end (drop (length w) l) f) no_form ≡ cond (same l w) (is f) no_form
-unfolding same starts_with
-word_form [] [] f = refl
-word_form (a ∷ l) [] f = refl
-word_form [] (b ∷ w) f = refl
-word_form (a ∷ l) (b ∷ w) f = go (eqb a b) (word_form l w f)
-  where
-    go : (t : Bool) → cond (starts_with l w) (at_end (drop (length w) l) f) no_form ≡ cond (same l w) (is f) no_form
-        → cond (t && starts_with l w) (at_end (drop (length w) l) f) no_form ≡ cond (t && same l w) (is f) no_form
-    go true e = e
-    go false e = refl
-
-pub word_is : (after : ℕ → ℕ) (l w : List ℕ) (f : Form) (c : Command) → meaning_of after f ≡ says c
-    → word l w c ≡ on_form after (cond (starts_with l w) (at_end (drop (length w) l) f) no_form)
-word_is after l w f c e = rw (word_form l w f) (go (same l w))
-  where
-    go : (t : Bool) → cond t (says c) (says_no no_such_form) ≡ on_form after (cond t (is f) no_form)
-    go true = sym e
-    go false = refl
+pub ruleset words = (m48_is, metric_is, inch_is, percent_is, g05_is, m15_is, m16_is, m30_is)

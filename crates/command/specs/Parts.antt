@@ -1,34 +1,26 @@
--- For contracts of private functions alone: the parts of a line as the code holds them, two numbers as they are written, a point,
--- a kind that takes one, a word.
-use Rattle.std.specs.Prelude.{◌≡◌, Bool, true, false, ◌&&◌, cond, List, [], ◌∷◌, ℕ, ◌≤◌, eqb, length, drop}
+-- For contracts of private functions alone: the parts of a line as the code holds them, numbers as they are written, a point, an arc.
+use Rattle.rules.specs.declared.Refusal.{Refusal}
+use Rattle.std.specs.Prelude.{◌≡◌, ℤ, cond, List, [], ◌∷◌, ℕ, ◌+◌, ◌≤◌, length, drop, Option, Some, None, Result, Ok, Err}
 use Prim.Native.Char.{code}
+use Rattle.lists.specs.Words.{bytes, starts_with}
 use Rattle.points.specs.declared.Point.{Point}
 use Rattle.points.specs.declared.Arc.{Arc}
 use Rattle.rules.specs.declared.Command.{Command}
-use Rattle.rules.specs.declared.Command.TheVariants as K
 use Rattle.rules.specs.declared.LineAnswer.{LineAnswer}
 use Rattle.rules.specs.declared.Revision.{Revision}
-use Rattle.rules.specs.Refusals.{no_such_form}
-use Rattle.rules.specs.Numbers.{Decimal, on_number, unsigned_of}
-use Rattle.rules.specs.Commands.{Form, declare, g00, hit, g01, g02, g03, Formed, no_form, at_end, point_form, column_after, says, says_no, command_of}
-use Rattle.number.specs.declared.CoordinateRead.{CoordinateRead}
-use Rattle.number.specs.declared.CoordinateRead.TheVariants as N
-use Rattle.number.specs.Capped.{HeldAs}
+use Rattle.rules.specs.Numbers.{Decimal, on_number, signed_of, unsigned_of}
+use Rattle.rules.specs.Commands.{Form, declare, Formed, is, no_form, at_end, point_form, arc_form, tool_form, column_after, says, says_no, point_of, arc_of, point_in_range, arc_in_range, meaning_of, on_form}
+use Rattle.number.specs.declared.Written.{Written}
+use Rattle.number.specs.Capped.{HeldAs, number_at}
 use Rattle.command.specs.declared.Pair.{Pair}
-use Rattle.command.specs.declared.PairRead.{PairRead}
-use Rattle.command.specs.declared.PairRead.TheVariants.{Got, None}
-use Rattle.command.specs.declared.Placed.{Placed}
-use Rattle.command.specs.declared.Placed.TheVariants.{Is, Out}
-use Rattle.command.specs.declared.Pointed.{Pointed}
-use Rattle.command.specs.declared.Pointed.TheVariants as P
-use Rattle.command.specs.declared.Turned.{Turned}
-use Rattle.command.specs.declared.Turned.TheVariants as T
-use Rattle.command.specs.declared.Code.{Code}
-use Rattle.command.specs.declared.Code.TheVariants as D
-use Rattle.command.specs.declared.CodeRead.{CodeRead}
-use Rattle.command.specs.declared.CodeRead.TheVariants as M
+
+abbrev pub said : Result Command Refusal → LineAnswer
+said r = record { command = r }
 
 -- ---- X, a number, Y, a number
+
+abbrev pub number_behind : List ℕ → ℕ → ℕ → Option Written
+number_behind s at b = cond (starts_with (drop at s) (b ∷ [])) (number_at (at + 1 + 1) (length s) (signed_of (drop (at + 1) s))) None
 
 -- the bytes from at on have a point's form: its two numbers are held, each with the column behind its letter, and the bytes after it begin
 -- where the second ends; no A stands before
@@ -43,68 +35,62 @@ pub record HasPair (s : List ℕ) (at : ℕ) (p : Pair) : Type 0 where
   pub y_holds : HeldAs p.y y_is
   pub within : p.y.next ≤ length s
 
-abbrev pub PairAt : List ℕ → ℕ → PairRead → Type 0
-PairAt s at (Got p) = HasPair s at p
+abbrev pub PairAt : List ℕ → ℕ → Option Pair → Type 0
+PairAt s at (Some p) = HasPair s at p
 PairAt s at None = (f : Decimal → Decimal → List ℕ → Formed) → point_form (drop at s) f ≡ no_form
 
-abbrev pub placed : CoordinateRead → CoordinateRead → Placed
-placed (N.Is x) (N.Is y) = Is (record { x = x; y = y })
-placed (N.Is x) (N.Out e) = Out e
-placed (N.Out e) b = Out e
+abbrev pub placed : Result ℤ Refusal → Result ℤ Refusal → Result Point Refusal
+placed (Ok x) (Ok y) = Ok (record { x = x; y = y })
+placed (Ok x) (Err e) = Err e
+placed (Err e) b = Err e
 
--- ---- kinds with a point, and with a point and a radius
+-- ---- a diameter or a radius to the line's end
 
-abbrev pub point_kind : Pointed → Decimal → Decimal → Form
-point_kind P.G00 x y = g00 x y
-point_kind P.Hit x y = hit x y
-point_kind P.G01 x y = g01 x y
-
-abbrev pub pointed : Pointed → Decimal → Decimal → List ℕ → Formed
-pointed k x y rest = at_end rest (point_kind k x y)
-
-abbrev pub point_command : Pointed → Point → Command
-point_command P.G00 p = K.G00 p
-point_command P.Hit p = K.Hit p
-point_command P.G01 p = K.G01 p
-
-abbrev pub turned : Turned → Decimal → Decimal → Decimal → Form
-turned T.G02 x y r = g02 x y r
-turned T.G03 x y r = g03 x y r
-
-abbrev pub turn_command : Turned → Arc → Command
-turn_command T.G02 a = K.G02 a
-turn_command T.G03 a = K.G03 a
-
--- ---- the diameter of a declared tool, and words
+abbrev pub last_size : List ℕ → (Decimal → Form) → Formed
+last_size l f = on_number (unsigned_of l) no_form (λ d rest. at_end rest (f d))
 
 abbrev pub declare_at : List ℕ → ℕ → Formed
-declare_at l t = on_number (unsigned_of l) no_form (λ d rest. at_end rest (declare t d))
+declare_at l t = last_size l (declare t)
 
-unfoldable pub same : List ℕ → List ℕ → Bool
-same [] [] = true
-same [] (b ∷ w) = false
-same (a ∷ l) [] = false
-same (a ∷ l) (b ∷ w) = eqb a b && same l w
+pub record HasSize (s : List ℕ) (at : ℕ) (w : Written) : Type 0 where
+  pub size_is : Decimal
+  pub form : (f : Decimal → Form) → last_size (drop at s) f ≡ is (f size_is)
+  pub column_is : w.column ≡ at + 1
+  pub holds : HeldAs w size_is
 
-abbrev pub word : List ℕ → List ℕ → Command → LineAnswer
-word l w c = cond (same l w) (says c) (says_no no_such_form)
+abbrev pub SizeAt : List ℕ → ℕ → Option Written → Type 0
+SizeAt s at (Some w) = HasSize s at w
+SizeAt s at None = (f : Decimal → Form) → last_size (drop at s) f ≡ no_form
 
--- ---- lines that every revision reads alike
+-- ---- a line that is a point, or an arc, whatever kind k of command it is, with the form f
 
-abbrev pub ByEach : List ℕ → LineAnswer → Type 0
-ByEach l a = (rev : Revision) → a ≡ command_of rev l
+abbrev pub answer_of : {A : Type 0} → (A → Command) → Result A Refusal → LineAnswer
+answer_of k (Ok x) = says (k x)
+answer_of k (Err e) = says_no e
 
--- ---- M and two digits
+unfoldable pub PointLine : List ℕ → ℕ → Result Point Refusal → Type 0
+PointLine s at r =
+    (k : Point → Command) (f : Decimal → Decimal → Form)
+    → ((after : ℕ → ℕ) (x y : Decimal) → meaning_of after (f x y) ≡ point_in_range after x y (says (k (point_of x y))))
+    → answer_of k r ≡ on_form (column_after at (drop at s)) (point_form (drop at s) (λ x y rest. at_end rest (f x y)))
 
-unfoldable pub code_of : ℕ → ℕ → CodeRead
-code_of a b =
-    cond (eqb a (code "4") && eqb b (code "8")) (M.Is D.M48)
-    (cond (eqb a (code "1") && eqb b (code "5")) (M.Is D.M15)
-    (cond (eqb a (code "1") && eqb b (code "6")) (M.Is D.M16)
-    (cond (eqb a (code "3") && eqb b (code "0")) (M.Is D.M30) M.None)))
+unfoldable pub ArcLine : List ℕ → ℕ → Result Arc Refusal → Type 0
+ArcLine s at r =
+    (k : Arc → Command) (f : Decimal → Decimal → Decimal → Form)
+    → ((after : ℕ → ℕ) (x y a : Decimal) → meaning_of after (f x y a) ≡ arc_in_range after x y a (says (k (arc_of x y a))))
+    → answer_of k r ≡ on_form (column_after at (drop at s)) (arc_form (drop at s) f)
 
-abbrev pub code_command : Code → Command
-code_command D.M15 = K.M15
-code_command D.M16 = K.M16
-code_command D.M30 = K.M30
-code_command D.M48 = K.M48
+-- ---- what declares a tool from a place on, and a line from its tool's number on
+
+unfoldable pub DeclareLine : List ℕ → ℕ → ℕ → Result Command Refusal → Type 0
+DeclareLine s at t r = said r ≡ on_form (λ _. at + 1) (declare_at (drop at s) t)
+
+unfoldable pub ToolLine : Revision → List ℕ → Result Command Refusal → Type 0
+ToolLine rev s r = said r ≡ on_form (column_after 1 (drop 1 s)) (tool_form rev (drop 1 s))
+
+-- ---- lines that are a word
+
+abbrev pub NoWord : List ℕ → Type 0
+NoWord l =
+    (l ≡ bytes "M48" → ⊥) × (l ≡ bytes "METRIC" → ⊥) × (l ≡ bytes "INCH" → ⊥) × (l ≡ bytes "%" → ⊥)
+    × (l ≡ bytes "G05" → ⊥) × (l ≡ bytes "M15" → ⊥) × (l ≡ bytes "M16" → ⊥) × (l ≡ bytes "M30" → ⊥)

@@ -5,8 +5,6 @@
 
 use report::TEXT_ROOM;
 use rules::{MAX_FILE, Revision, TABLE_ROOM};
-use show::Input;
-use show::arguments::Chosen;
 use std::io::{Print, Read};
 
 fn print_report(output: &impl Print, file: &[u8], revision: Revision) {
@@ -16,19 +14,24 @@ fn print_report(output: &impl Print, file: &[u8], revision: Revision) {
     show::word(output, &text[..length]);
 }
 
+// Kept: alike in each program. A function that is handed what to do with the file has a `requires`, and no public function may
+// (docs/PROMISES.md).
 fn read_file(input: &mut impl Read, output: &impl Print, errors: &impl Print, revision: Revision) {
     // One byte more than a file may have, so that a longer one is seen.
     let mut file = [0u8; MAX_FILE + 1];
-    match show::read_input(input, errors, &mut file) {
-        Input::Bytes(got) => print_report(output, &file[..got], revision),
-        Input::Failed => {}
+    if let Some(got) = show::read_input(input, errors, &mut file) {
+        print_report(output, &file[..got], revision);
     }
 }
 
 fn main(rt: HostRuntime) {
     let errors = rt.stderr();
-    match show::arguments::chosen_revision(&rt, &errors, b"usage: counts [2019|2021] <FILE\n") {
-        Chosen::By(revision) => read_file(&mut rt.stdin(), &rt.stdout(), &errors, revision),
-        Chosen::Nothing => {}
+    let chosen = show::arguments::chosen_revision(
+        &rt,
+        &errors,
+        b"usage: counts [2019|2021] <FILE\n",
+    );
+    if let Some(revision) = chosen {
+        read_file(&mut rt.stdin(), &rt.stdout(), &errors, revision);
     }
 }

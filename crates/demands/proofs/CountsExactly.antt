@@ -8,17 +8,18 @@ use borrow.Author.Tests.{lt-leb, leb-false}
 use lib.Dec.{leb}
 use lib.IntN.{ℤ}
 use lib.ListN.{length, take, drop}
+use Rattle.std.specs.Prelude.{Ok, Err}
+use Rattle.rules.proofs.Said.{refused_same}
 use Rattle.lists.specs.Exactly.{Exactly}
 use Rattle.runs.specs.Machine.{Verdict, accepted, refused, Span}
 use Rattle.runs.proofs.Whole.{hold_one}
 use Rattle.rules.specs.declared.Command.{Command}
 use Rattle.rules.specs.declared.State.{State}
 use Rattle.rules.specs.declared.Refusal.{Refusal}
-use Rattle.rules.specs.declared.Answer.{Answer}
-use Rattle.rules.specs.declared.Answer.TheVariants.{Done, Refused}
 use Rattle.rules.specs.declared.Revision.{Revision}
 use Rattle.rules.specs.declared.Way.{Way}
 use Rattle.rules.specs.declared.Counts.{Counts}
+use Rattle.rules.specs.Results.{Answer, refused_at}
 use Rattle.rules.specs.Refusals.{bad_table}
 use Rattle.rules.specs.Numbers.{max_tool}
 use Rattle.rules.specs.Rows.{entries_of}
@@ -90,29 +91,29 @@ record WouldMeet (rev : Revision) (t : List ℤ) (n k : ℕ) (l : List ℕ) (m :
   meets : span.meeting ≡ m
 
 module _ (rev : Revision) (t : List ℤ) (n k : ℕ) (l : List ℕ) where
-  met_span : (m : ℕ) (v : Verdict (Span Command State) Refusal) → edit_of rev t n k l ≡ v → meeting_of v ≡ Done m → WouldMeet rev t n k l m
+  met_span : (m : ℕ) (v : Verdict (Span Command State) Refusal) → edit_of rev t n k l ≡ v → meeting_of v ≡ Ok m → WouldMeet rev t n k l m
   met_span m (accepted s) e h = let d : s.meeting ≡ m = cc in record { span = s; verdict = e; meets = d }
   met_span m (refused a i) e h = absurd (let z : ◌≡◌ {A = ℕ} 0 1 = cc in omega arith)
 
-  would_meet : (m : ℕ) → meeting_answer rev t n k l ≡ Done m → WouldMeet rev t n k l m
+  would_meet : (m : ℕ) → meeting_answer rev t n k l ≡ Ok m → WouldMeet rev t n k l m
   unfolding meeting_answer
   would_meet m h = met_span m (edit_of rev t n k l) refl h
 
-  met_refused : (e : Refusal) (i : ℕ) (v : Verdict (Span Command State) Refusal) → edit_of rev t n k l ≡ v → meeting_of v ≡ Refused e i → edit_of rev t n k l ≡ refused e i
+  met_refused : (e : Refusal) (i : ℕ) (v : Verdict (Span Command State) Refusal) → edit_of rev t n k l ≡ v → meeting_of v ≡ refused_at e i → edit_of rev t n k l ≡ refused e i
   met_refused e i (accepted s) w h = absurd (let z : ◌≡◌ {A = ℕ} 0 1 = cc in omega arith)
-  met_refused e i (refused a j) w h = let d : a ≡ e = cc in let z : j ≡ i = cc in w ∙ ap (λ (x : Refusal). refused x j) d ∙ ap (refused e) z
+  met_refused e i (refused a j) w h = let d : a ≡ e = (refused_same h).0 in let z : j ≡ i = (refused_same h).1 in w ∙ ap (λ (x : Refusal). refused x j) d ∙ ap (refused e) z
 
-  stands : (m : ℕ) → meeting_answer rev t n k l ≡ Done m → (old : Rows) × Stand t n k m old
+  stands : (m : ℕ) → meeting_answer rev t n k l ≡ Ok m → (old : Rows) × Stand t n k m old
   stands m h =
       let w = would_meet m h in
       (old_rows (entries_of n t) k w.span, subst (λ (j : ℕ). Stand t n k j (old_rows (entries_of n t) k w.span)) w.meets (stand rev t n k l w.span w.verdict))
 
   module _ (c : Counts) where
-    last_of_all : (e : Refusal) (i : ℕ) → meeting_answer rev t n k l ≡ Refused e i → edit_answer rev t n k l c ≡ Refused e i
+    last_of_all : (e : Refusal) (i : ℕ) → meeting_answer rev t n k l ≡ refused_at e i → edit_answer rev t n k l c ≡ refused_at e i
     unfolding meeting_answer edit_answer
     last_of_all e i h = ap meeting_of (counted_refused rev t n k l c e i (met_refused e i (edit_of rev t n k l) refl h))
 
-    module _ (m : ℕ) (old : Rows) (h : meeting_answer rev t n k l ≡ Done m) (o : Stand t n k m old) where
+    module _ (m : ℕ) (old : Rows) (h : meeting_answer rev t n k l ≡ Ok m) (o : Stand t n k m old) where
       w : WouldMeet rev t n k l m
       w = would_meet m h
 
@@ -120,26 +121,26 @@ module _ (rev : Revision) (t : List ℤ) (n k : ℕ) (l : List ℕ) where
       unfolding stands w
       same_old = one_stand t n k m (old_rows (entries_of n t) k w.span) old (stands m h).1 o
 
-      fit_answer : counts_fit old c ≡ true → edit_answer rev t n k l c ≡ Done m
+      fit_answer : counts_fit old c ≡ true → edit_answer rev t n k l c ≡ Ok m
       unfolding edit_answer
-      fit_answer f = rw (counted_fit rev t n k l c w.span w.verdict (rw same_old f)) (ap Done w.meets)
+      fit_answer f = rw (counted_fit rev t n k l c w.span w.verdict (rw same_old f)) (ap Ok w.meets)
 
-      unfit_answer : counts_fit old c ≡ false → edit_answer rev t n k l c ≡ Refused bad_table 0
+      unfit_answer : counts_fit old c ≡ false → edit_answer rev t n k l c ≡ refused_at bad_table 0
       unfolding edit_answer
       unfit_answer f = rw (counted_unfit rev t n k l c w.span w.verdict (rw same_old f))
 
-      refused_if : (b : Bool) → counts_fit old c ≡ b → edit_answer rev t n k l c ≡ Refused bad_table 0 → CountsFault old c
+      refused_if : (b : Bool) → counts_fit old c ≡ b → edit_answer rev t n k l c ≡ refused_at bad_table 0 → CountsFault old c
       refused_if true f e = absurd (let d = sym (fit_answer f) ∙ e in let z : ◌≡◌ {A = ℕ} 0 1 = cc in omega arith)
       refused_if false f e = unfit_fault old c f
 
-      accepted_if : (b : Bool) → counts_fit old c ≡ b → (CountsFault old c → ⊥) → edit_answer rev t n k l c ≡ Done m
+      accepted_if : (b : Bool) → counts_fit old c ≡ b → (CountsFault old c → ⊥) → edit_answer rev t n k l c ≡ Ok m
       accepted_if true f e = fit_answer f
       accepted_if false f e = absurd (e (unfit_fault old c f))
 
-      pub refused_so : Exactly (edit_answer rev t n k l c ≡ Refused bad_table 0) (CountsFault old c)
+      pub refused_so : Exactly (edit_answer rev t n k l c ≡ refused_at bad_table 0) (CountsFault old c)
       refused_so = (refused_if (counts_fit old c) refl, λ x. unfit_answer (fault_unfit old c x))
 
-      pub accepted_so : Exactly (edit_answer rev t n k l c ≡ Done m) (CountsFault old c → ⊥)
+      pub accepted_so : Exactly (edit_answer rev t n k l c ≡ Ok m) (CountsFault old c → ⊥)
       accepted_so = (
         λ e x. let d = sym (unfit_answer (fault_unfit old c x)) ∙ e in let z : ◌≡◌ {A = ℕ} 0 1 = cc in omega arith,
         accepted_if (counts_fit old c) refl,
@@ -158,39 +159,39 @@ counts_exactly = record {
 
 module _ (rev : Revision) (t : List ℤ) (n k : ℕ) (l : List ℕ) (c : Counts) where
   -- by what the edit would answer whatever the counts
-  why : (e : Refusal) (i : ℕ) (a : Answer) → meeting_answer rev t n k l ≡ a → edit_answer rev t n k l c ≡ Refused e i → EditRefused rev t n k l c e i
-  why e i (Refused a j) w h = line_stays ((stays_exactly rev t n k l e i).0 (w ∙ sym (last_of_all rev t n k l c a j w) ∙ h))
-  why e i (Done m) w h = by_fit (counts_fit (stands rev t n k l m w).0 c) refl
+  why : (e : Refusal) (i : ℕ) (a : Answer) → meeting_answer rev t n k l ≡ a → edit_answer rev t n k l c ≡ refused_at e i → EditRefused rev t n k l c e i
+  why e i (Err r) w h = line_stays ((stays_exactly rev t n k l e i).0 (w ∙ sym (last_of_all rev t n k l c r.refusal r.line w) ∙ h))
+  why e i (Ok m) w h = by_fit (counts_fit (stands rev t n k l m w).0 c) refl
     where
       by_fit : (b : Bool) → counts_fit (stands rev t n k l m w).0 c ≡ b → EditRefused rev t n k l c e i
       by_fit true f =
           absurd (let d = sym (fit_answer rev t n k l c m (stands rev t n k l m w).0 w (stands rev t n k l m w).1 f) ∙ h in let z : ◌≡◌ {A = ℕ} 0 1 = cc in omega arith)
       by_fit false f =
-          let d : ◌≡◌ {A = Answer} (Refused bad_table 0) (Refused e i)
+          let d : ◌≡◌ {A = Answer} (refused_at bad_table 0) (refused_at e i)
           = sym (unfit_answer rev t n k l c m (stands rev t n k l m w).0 w (stands rev t n k l m w).1 f) ∙ h in
-          let x : bad_table ≡ e = cc in
-          let y : 0 ≡ i = cc in
+          let x : bad_table ≡ e = (refused_same d).0 in
+          let y : 0 ≡ i = (refused_same d).1 in
           subst₂ (EditRefused rev t n k l c) x y
           (counts ((meets_exactly rev t n k l m).0 w) (stands rev t n k l m w).1 (unfit_fault (stands rev t n k l m w).0 c f))
 
-  refused_with : {e : Refusal} {i : ℕ} → EditRefused rev t n k l c e i → edit_answer rev t n k l c ≡ Refused e i
+  refused_with : {e : Refusal} {i : ℕ} → EditRefused rev t n k l c e i → edit_answer rev t n k l c ≡ refused_at e i
   refused_with (line_stays {e = e} {i = i} w) = last_of_all rev t n k l c e i ((stays_exactly rev t n k l e i).1 w)
   refused_with (counts {m = m} {old = old} w o x) = (refused_so rev t n k l c m old ((meets_exactly rev t n k l m).1 w) o).1 x
 
-  same_meeting : (j m : ℕ) → EditDone rev t n k l c m → meeting_answer rev t n k l ≡ Done j → j ≡ m
+  same_meeting : (j m : ℕ) → EditDone rev t n k l c m → meeting_answer rev t n k l ≡ Ok j → j ≡ m
   unfolding meeting_answer
   same_meeting j m r w = let d = sym w ∙ ap meeting_of r.verdict in let z : j ≡ r.span.meeting = cc in z ∙ r.meets
 
-  accepted_with : (m : ℕ) (a : Answer) → meeting_answer rev t n k l ≡ a → edit_answer rev t n k l c ≡ Done m → EditMeets rev t n k l c m
-  accepted_with m (Refused a j) w h = absurd (let d = sym (last_of_all rev t n k l c a j w) ∙ h in let z : ◌≡◌ {A = ℕ} 0 1 = cc in omega arith)
-  accepted_with m (Done j) w h =
+  accepted_with : (m : ℕ) (a : Answer) → meeting_answer rev t n k l ≡ a → edit_answer rev t n k l c ≡ Ok m → EditMeets rev t n k l c m
+  accepted_with m (Err r) w h = absurd (let d = sym (last_of_all rev t n k l c r.refusal r.line w) ∙ h in let z : ◌≡◌ {A = ℕ} 0 1 = cc in omega arith)
+  accepted_with m (Ok j) w h =
       let o = stands rev t n k l j w in
       let r = edit_done rev t n k l c m h in
       let d : j ≡ m = same_meeting j m r w in
       subst (EditMeets rev t n k l c) d
-      (record { meets = (meets_exactly rev t n k l j).0 w; old = o.0; stand = o.1; no_fault = (accepted_so rev t n k l c j o.0 w o.1).0 (h ∙ ap Done (sym d)) })
+      (record { meets = (meets_exactly rev t n k l j).0 w; old = o.0; stand = o.1; no_fault = (accepted_so rev t n k l c j o.0 w o.1).0 (h ∙ ap Ok (sym d)) })
 
-  done_with : (m : ℕ) → EditMeets rev t n k l c m → edit_answer rev t n k l c ≡ Done m
+  done_with : (m : ℕ) → EditMeets rev t n k l c m → edit_answer rev t n k l c ≡ Ok m
   done_with m x = (accepted_so rev t n k l c m x.old ((meets_exactly rev t n k l m).1 x.meets) x.stand).1 x.no_fault
 
 pub edit_refused_exactly : EditRefusedExactly

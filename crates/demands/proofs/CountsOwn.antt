@@ -11,6 +11,7 @@ use lib.Dec.{leb, eqb}
 use lib.IntN.{ℤ}
 use lib.ListN.{length, get_or, take, drop}
 use lib.Seq.{take-suc, take-length}
+use Rattle.std.specs.Prelude.{Some, Ok}
 use Rattle.lists.specs.Put.{put_at}
 use Rattle.runs.specs.Machine.{Verdict, accepted, refused, Row, Entry, Span}
 use Rattle.runs.proofs.Whole.{hold_one}
@@ -22,9 +23,7 @@ use Rattle.rules.specs.declared.Refusal.{Refusal}
 use Rattle.rules.specs.declared.Revision.{Revision}
 use Rattle.rules.specs.declared.Way.{Way}
 use Rattle.rules.specs.declared.Hole.{Hole}
-use Rattle.rules.specs.declared.HoleAnswer.TheVariants as H
-use Rattle.rules.specs.declared.DiameterAnswer.TheVariants as D
-use Rattle.rules.specs.declared.Answer.TheVariants.{Done}
+use Rattle.rules.specs.Results.{refused_at}
 use Rattle.rules.specs.Refusals.{bad_table, no_such_tool}
 use Rattle.rules.specs.Numbers.{max_tool, is_tool}
 use Rattle.rules.specs.Kinds.{kind_of}
@@ -52,7 +51,7 @@ pub one_rows : (t : List ℤ) (n : ℕ) (rs ss : Rows) → Good t n rs → Good 
 one_rows t n rs ss g h = hold_one rs ss (sym g.found ∙ h.found)
 
 -- those of a table that was read are the file's
-module _ (rev : Revision) (bs : List ℕ) (t : List ℤ) (n : ℕ) (rs : Rows) (h : read_answer rev bs t ≡ Done n) (g : Good (read_leaves rev bs t) n rs) where
+module _ (rev : Revision) (bs : List ℕ) (t : List ℤ) (n : ℕ) (rs : Rows) (h : read_answer rev bs t ≡ Ok n) (g : Good (read_leaves rev bs t) n rs) where
   pub read_rows : (read_done rev bs t n h).rows ≡ rs
   read_rows =
       let d = read_done rev bs t n h in
@@ -76,7 +75,7 @@ module _ (rev : Revision) (t : List ℤ) (n : ℕ) (rs : Rows) (g : Good t n rs)
   unfolding edit_answer meeting_answer
   own_answer = ap meeting_of (own_verdict (edit_of rev t n k l) refl)
 
-  edit_own : (m : ℕ) (ss : Rows) → edit_answer rev t n k l (counts_of rs) ≡ Done m → Good (edit_leaves rev t n k l (counts_of rs)) n ss
+  edit_own : (m : ℕ) (ss : Rows) → edit_answer rev t n k l (counts_of rs) ≡ Ok m → Good (edit_leaves rev t n k l (counts_of rs)) n ss
       → edit_counts rev t n k l (counts_of rs) ≡ counts_of ss
   unfolding edit_counts
   edit_own m ss h w =
@@ -174,13 +173,13 @@ module _ (t : List ℤ) (n : ℕ) (rs : Rows) (g : Good t n rs) where
     unfolding is_tool
     is_tool_lem = rw (le-leb 1 tool p, le-leb tool max_tool q)
 
-    hits_asked : hits_answer (counts_of rs) tool ≡ Done (afresh hits tool t n n)
+    hits_asked : hits_answer (counts_of rs) tool ≡ Ok (afresh hits tool t n n)
     unfolding hits_answer counts_of
-    hits_asked = rw is_tool_lem (ap Done (of_each (how_many hits rs) tool p q ∙ sym (hits_upto tool n (omega arith) ∙ ap (λ (z : Rows). how_many hits z tool) all_rows)))
+    hits_asked = rw is_tool_lem (ap Ok (of_each (how_many hits rs) tool p q ∙ sym (hits_upto tool n (omega arith) ∙ ap (λ (z : Rows). how_many hits z tool) all_rows)))
 
-    routs_asked : routs_answer (counts_of rs) tool ≡ Done (afresh routs tool t n n)
+    routs_asked : routs_answer (counts_of rs) tool ≡ Ok (afresh routs tool t n n)
     unfolding routs_answer counts_of
-    routs_asked = rw is_tool_lem (ap Done (of_each (how_many routs rs) tool p q ∙ sym (routs_upto tool n (omega arith) ∙ ap (λ (z : Rows). how_many routs z tool) all_rows)))
+    routs_asked = rw is_tool_lem (ap Ok (of_each (how_many routs rs) tool p q ∙ sym (routs_upto tool n (omega arith) ∙ ap (λ (z : Rows). how_many routs z tool) all_rows)))
 
 pub counts_own : CountsOwn
 counts_own = record { read = read_own; fit = own_answer; edit = edit_own; hits = hits_asked; routs = routs_asked }
@@ -263,11 +262,11 @@ sum_rows (r ∷ rs) h =
     omega (arith, x, y, sum_rows rs h.1)
 
 -- the tools of a good table's holes: each has a diameter
-has_tool : (t : List ℤ) (n tool d : ℕ) → diameter_answer t n tool ≡ D.Is d → (1 ≤ tool) × (tool ≤ max_tool)
+has_tool : (t : List ℤ) (n tool d : ℕ) → diameter_answer t n tool ≡ Ok d → (1 ≤ tool) × (tool ≤ max_tool)
 unfolding diameter_answer is_tool
 has_tool t n tool d h = by (sizes_fit t n) (leb 1 tool) (leb tool max_tool) refl refl h
   where
-    by : (a b c : Bool) → leb 1 tool ≡ b → leb tool max_tool ≡ c → cond a (cond (b && c) (diameter_in tool (entries_of n t) 0) (D.Refused no_such_tool 0)) (D.Refused bad_table 0) ≡ D.Is d
+    by : (a b c : Bool) → leb 1 tool ≡ b → leb tool max_tool ≡ c → cond a (cond (b && c) (diameter_in tool (entries_of n t) 0) (refused_at no_such_tool 0)) (refused_at bad_table 0) ≡ Ok d
         → (1 ≤ tool) × (tool ≤ max_tool)
     by true true true f q e = (leb-true 1 tool f, leb-true tool max_tool q)
     by true true false f q e = absurd (let z : ◌≡◌ {A = ℕ} 0 1 = cc in omega arith)
@@ -275,7 +274,7 @@ has_tool t n tool d h = by (sizes_fit t n) (leb 1 tool) (leb tool max_tool) refl
     by false b c f q e = absurd (let z : ◌≡◌ {A = ℕ} 0 1 = cc in omega arith)
 
 -- whatever the point before, a row that makes a hole makes it with its own tool
-hole_made : (c : Command) (from at : Point) (s : State) → one_hole (hole_of at c s) ≡ 1 → (h : Hole) × ((hole_of from c s ≡ H.Makes h) × (h.tool ≡ s.tool))
+hole_made : (c : Command) (from at : Point) (s : State) → one_hole (hole_of at c s) ≡ 1 → (h : Hole) × ((hole_of from c s ≡ Ok (Some h)) × (h.tool ≡ s.tool))
 unfolding hole_of
 hole_made Comment from at s h = absurd (omega arith)
 hole_made M48 from at s h = absurd (omega arith)

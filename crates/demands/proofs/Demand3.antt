@@ -7,6 +7,7 @@ use Prim.Native.Nat.{ℕ, ◌+◌, ◌-◌, ◌*◌, ◌≤◌}
 use native.Mathlib.Omega.{arith}
 use lib.IntN.{ℤ}
 use lib.ListN.{length, drop, length-append}
+use Rattle.std.specs.Prelude.{Ok}
 use Rattle.lists.specs.Put.{put_at}
 use Rattle.runs.specs.Machine.{Verdict, accepted, refused, all_hold, Span}
 use Rattle.runs.specs.Agreement.{FirstAgreement}
@@ -15,10 +16,9 @@ use Rattle.runs.proofs.Meeting.{one_meeting}
 use Rattle.rules.specs.declared.Command.{Command}
 use Rattle.rules.specs.declared.State.{State}
 use Rattle.rules.specs.declared.Refusal.{Refusal}
-use Rattle.rules.specs.declared.Answer.{Answer}
-use Rattle.rules.specs.declared.Answer.TheVariants.{Done, Refused}
 use Rattle.rules.specs.declared.Revision.{Revision}
 use Rattle.rules.specs.declared.Counts.{Counts}
+use Rattle.rules.specs.Results.{Answer, refused_at}
 use Rattle.rules.specs.Numbers.{max_file}
 use Rattle.rules.specs.State.{start}
 use Rattle.rules.specs.Rows.{row_width, table_numbers}
@@ -53,14 +53,14 @@ module _ (rev : Revision) {bs : List ℕ} {k : ℕ} (w : LineOf bs k) (rs : Rows
       × SameCounts (counts_of rs) a c (read_counts rev (edited w l) u)
 
   as_refused : (e : Refusal) (i : ℕ) → edit_rows rev (all_hold rs) k l ≡ refused e i
-      → AsAfresh (table_numbers rs ++ rest) (table_numbers rs ++ rest) (Refused e i) (counts_of rs)
+      → AsAfresh (table_numbers rs ++ rest) (table_numbers rs ++ rest) (refused_at e i) (counts_of rs)
   unfolding AsAfresh
   as_refused e i h =
       let r = read_refuses rev (edited w l) (table_numbers rs ++ rest) e i (fresh ∙ ap (with_span rs k) h) in
       (r.0, sym r.1, refl, refl)
 
   as_accepted : (s : Span Command State) → edit_rows rev (all_hold rs) k l ≡ accepted s
-      → AsAfresh (table_numbers rs ++ rest) (table_numbers (put_at rs (k - 1) s.rows) ++ rest) (Done s.meeting) (counts_of (put_at rs (k - 1) s.rows))
+      → AsAfresh (table_numbers rs ++ rest) (table_numbers (put_at rs (k - 1) s.rows) ++ rest) (Ok s.meeting) (counts_of (put_at rs (k - 1) s.rows))
   unfolding AsAfresh
   as_accepted s h =
       let new : Rows = put_at rs (k - 1) s.rows in
@@ -68,7 +68,7 @@ module _ (rev : Revision) {bs : List ℕ} {k : ℕ} (w : LineOf bs k) (rs : Rows
       let n : length new ≡ length rs
       = new_length rev rs rest (file_ok rev bs rs read) (file_few rev bs rs read) k from upto l hl s h in
       let room : row_width * length new ≤ length (table_numbers rs ++ rest) = omega (arith, n, table_length rs, length-append (table_numbers rs) rest) in (
-        read_accepts rev (edited w l) (table_numbers rs ++ rest) new f room ∙ ap Done n,
+        read_accepts rev (edited w l) (table_numbers rs ++ rest) new f room ∙ ap Ok n,
         sym (read_writes rev (edited w l) (table_numbers rs ++ rest) new f room ∙ table_again rs new rest n),
         (
           record { old = rs; new = new; read_old = read; read_new = f; first = edit_agreement rev rs k from upto l s h },
@@ -97,7 +97,7 @@ module _ (rev : Revision) {bs : List ℕ} {k : ℕ} (w : LineOf bs k) (rs : Rows
 
 -- ---- a file that was read
 
-module _ (rev : Revision) (bs : List ℕ) (t : List ℤ) (n : ℕ) (h : read_answer rev bs t ≡ Done n) where
+module _ (rev : Revision) (bs : List ℕ) (t : List ℤ) (n : ℕ) (h : read_answer rev bs t ≡ Ok n) where
   line : (k : ℕ) → 1 ≤ k → k ≤ n → LineOf bs k
   line k a b = let d = read_done rev bs t n h in every_line rev bs d.rows d.read k a (omega (arith, d.counted))
 

@@ -8,6 +8,7 @@ use native.Mathlib.Omega.{arith}
 use lib.IntN.{ℤ}
 use lib.ListN.{length, get_or, set}
 use lib.Seq.{get_or-append_seam, set-append_seam}
+use Rattle.std.specs.Prelude.{Some, Ok}
 use Rattle.lists.specs.Put.{put_at}
 use Rattle.lists.proofs.Around.{around_line}
 use Rattle.runs.specs.Machine.{yields, accepted, all_hold, Span, commands_of, Follows, StepBy}
@@ -16,12 +17,9 @@ use Rattle.rules.specs.declared.Command.{Command}
 use Rattle.rules.specs.declared.Command.TheVariants.{Comment}
 use Rattle.rules.specs.declared.State.{State}
 use Rattle.rules.specs.declared.Hole.{Hole}
-use Rattle.rules.specs.declared.Answer.TheVariants.{Done}
-use Rattle.rules.specs.declared.HoleAnswer.TheVariants as H
-use Rattle.rules.specs.declared.DiameterAnswer.{DiameterAnswer}
-use Rattle.rules.specs.declared.DiameterAnswer.TheVariants.{Is, Refused}
 use Rattle.rules.specs.declared.Revision.{Revision}
 use Rattle.rules.specs.declared.Counts.{Counts}
+use Rattle.rules.specs.Results.{DiameterAnswer, refused_at}
 use Rattle.rules.specs.Refusals.{no_such_line, no_such_tool}
 use Rattle.rules.specs.Numbers.{max_tool, is_tool}
 use Rattle.rules.specs.Ranges.{NumberOk, CommandOk}
@@ -49,7 +47,7 @@ use Rattle.demands.proofs.GoodStays.{edit_good}
 
 -- the answer, by the rows' commands
 abbrev diameter_of : ℕ → List Command → DiameterAnswer
-diameter_of tool cs = cond (is_tool tool) (diameter_by tool cs) (Refused no_such_tool 0)
+diameter_of tool cs = cond (is_tool tool) (diameter_by tool cs) (refused_at no_such_tool 0)
 
 good_diameter : (t : List ℤ) (n : ℕ) (rs : Rows) → Good t n rs → (tool : ℕ) → diameter_answer t n tool ≡ diameter_of tool (commands_of rs)
 unfolding diameter_answer
@@ -65,7 +63,7 @@ module _ (t : List ℤ) (n : ℕ) (rs : Rows) (g : Good t n rs) where
     within_range : NumberOk 1 max_tool tool
     within_range = (subst CommandOk w.row (row_ok rs (j - 1) ok)).0
 
-    its_diameter : diameter_answer t n tool ≡ Is d
+    its_diameter : diameter_answer t n tool ≡ Ok d
     its_diameter =
         good_diameter t n rs g tool
         ∙ rw (tool_read (record { low = within_range.low; high = within_range.high }))
@@ -74,35 +72,35 @@ module _ (t : List ℤ) (n : ℕ) (rs : Rows) (g : Good t n rs) where
   one_row : (tool c d i j : ℕ) → DeclaredAt rs tool c i → DeclaredAt rs tool d j → (i ≡ j) × (c ≡ d)
   one_row tool c d i j v w =
       let e = one_declaration tool (within_range v).high rs g.follows ok (i - 1) (j - 1) c d v.row w.row in
-      let f : Is c ≡ Is d = sym (its_diameter v) ∙ its_diameter w in
+      let f : Ok c ≡ Ok d = sym (its_diameter v) ∙ its_diameter w in
       (omega (arith, e, v.from, w.from), cc)
 
-  by_row : (tool d : ℕ) → diameter_by tool (commands_of rs) ≡ Is d → (j : ℕ) × DeclaredAt rs tool d j
+  by_row : (tool d : ℕ) → diameter_by tool (commands_of rs) ≡ Ok d → (j : ℕ) × DeclaredAt rs tool d j
   by_row tool d e =
       let w = found_row tool rs d e in
       let n : suc w.0 - 1 ≡ w.0 = omega arith in
       (suc w.0, record { from = omega arith; upto = omega (arith, w.1); row = rw n w.2 })
 
-  its_row : (tool d : ℕ) → diameter_answer t n tool ≡ Is d → (j : ℕ) × DeclaredAt rs tool d j
+  its_row : (tool d : ℕ) → diameter_answer t n tool ≡ Ok d → (j : ℕ) × DeclaredAt rs tool d j
   its_row tool d e = by (is_tool tool) (sym (good_diameter t n rs g tool) ∙ e)
     where
-      by : (b : Bool) → cond b (diameter_by tool (commands_of rs)) (Refused no_such_tool 0) ≡ Is d → (j : ℕ) × DeclaredAt rs tool d j
+      by : (b : Bool) → cond b (diameter_by tool (commands_of rs)) (refused_at no_such_tool 0) ≡ Ok d → (j : ℕ) × DeclaredAt rs tool d j
       by true f = by_row tool d f
       by false f = absurd (let z : ◌≡◌ {A = ℕ} 0 1 = cc in omega arith)
 
   -- ---- a hole's tool
 
-  hole_row : (k : ℕ) (h : Hole) → h.tool ≤ max_tool → 1 ≤ k → k ≤ length rs → hole_in (all_hold rs) k ≡ H.Makes h → HasDiameter h.tool rs
+  hole_row : (k : ℕ) (h : Hole) → h.tool ≤ max_tool → 1 ≤ k → k ≤ length rs → hole_in (all_hold rs) k ≡ Ok (Some h) → HasDiameter h.tool rs
   hole_row k h low a b e =
-      around_line (λ z _. Follows (StepBy taken) start 0 z → RowsOk z → hole_in (all_hold z) k ≡ H.Makes h → HasDiameter h.tool z) rs k a b
+      around_line (λ z _. Follows (StepBy taken) start 0 z → RowsOk z → hole_in (all_hold z) k ≡ Ok (Some h) → HasDiameter h.tool z) rs k a b
       (λ os r ys f g w q. hole_diameter os r ys g w h low (sym (hole_here os r ys k f) ∙ q)) g.follows ok e
 
-  of_holes : (k : ℕ) (h : Hole) → hole_answer t n k ≡ H.Makes h → (d : ℕ) × (diameter_answer t n h.tool ≡ Is d)
+  of_holes : (k : ℕ) (h : Hole) → hole_answer t n k ≡ Ok (Some h) → (d : ℕ) × (diameter_answer t n h.tool ≡ Ok d)
   unfolding hole_answer
   of_holes k h e = by (is_line n k) refl (rw (g.fits, g.found) at e)
     where
-      by : (b : Bool) → is_line n k ≡ b → cond b (hole_in (all_hold rs) k) (H.Refused no_such_line 0) ≡ H.Makes h
-          → (d : ℕ) × (diameter_answer t n h.tool ≡ Is d)
+      by : (b : Bool) → is_line n k ≡ b → cond b (hole_in (all_hold rs) k) (refused_at no_such_line 0) ≡ Ok (Some h)
+          → (d : ℕ) × (diameter_answer t n h.tool ≡ Ok d)
       by true f q =
           let p = line_says n k f in
           let w = hole_row k h (hole_in_range t n k h e).tool_range p.0 (omega (arith, p.1, (good_whole t n rs g).count)) q in
@@ -128,14 +126,14 @@ diameter_left {rev} tool k l s new rs a b h old =
     ∙ diameter_set tool g.command (new g.command ((Lines.line_says rev l (yields g.command)).0 g.said)) (commands_of rs) k a (omega (arith, commands_length rs))
     (subst (LeavesTool tool) (sym (commands_at rs (k - 1) no_row)) old)
 
-after_edit : {rev : Revision} (t : List ℤ) (n : ℕ) (rs : Rows) → Good t n rs → (k : ℕ) (l : List ℕ) (counts : Counts) (m tool : ℕ) → edit_answer rev t n k l counts ≡ Done m
+after_edit : {rev : Revision} (t : List ℤ) (n : ℕ) (rs : Rows) → Good t n rs → (k : ℕ) (l : List ℕ) (counts : Counts) (m tool : ℕ) → edit_answer rev t n k l counts ≡ Ok m
     → LeavesTool tool (row_of rs k).command → ((c : Command) → SpellsLine rev l c → LeavesTool tool c)
     → diameter_answer (edit_leaves rev t n k l counts) n tool ≡ diameter_answer t n tool
 after_edit {rev} t n rs g k l counts m tool h old new =
     let d = edit_done rev t n k l counts m h in
     let e = edit_good rev t n rs g k l counts d.span d.verdict d.fit in
     good_diameter (edit_leaves rev t n k l counts) n (put_at rs (k - 1) d.span.rows) e.good tool
-    ∙ ap (λ (a : DiameterAnswer). cond (is_tool tool) a (Refused no_such_tool 0))
+    ∙ ap (λ (a : DiameterAnswer). cond (is_tool tool) a (refused_at no_such_tool 0))
     (diameter_left tool k l d.span new rs e.from e.upto e.made old)
     ∙ sym (good_diameter t n rs g tool)
 

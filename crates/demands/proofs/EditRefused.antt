@@ -8,6 +8,8 @@ use native.Mathlib.Omega.{arith}
 use borrow.Author.Tests.{eq-eqb, ne_eqb, eqb-true, eqb-false}
 use lib.IntN.{ℤ}
 use lib.ListN.{length, length-drop}
+use Rattle.std.specs.Prelude.{Option, Some, None, Ok}
+use Rattle.rules.proofs.Said.{refused_same}
 use Rattle.lists.specs.Exactly.{Exactly}
 use Rattle.lists.proofs.Choice.{cond_all}
 use Rattle.runs.specs.Machine.{Out, yields, stops, on_out, Verdict, accepted, refused, Row, Entry, holds, bad, all_hold, Span, last_of, StepBy}
@@ -18,10 +20,8 @@ use Rattle.runs.proofs.Hold.{hold_length}
 use Rattle.rules.specs.declared.Command.{Command}
 use Rattle.rules.specs.declared.State.{State}
 use Rattle.rules.specs.declared.Refusal.{Refusal}
-use Rattle.rules.specs.declared.Before.{Before}
-use Rattle.rules.specs.declared.Before.TheVariants.{From, Bad}
-use Rattle.rules.specs.declared.Answer.TheVariants.{Done, Refused}
 use Rattle.rules.specs.declared.Revision.{Revision}
+use Rattle.rules.specs.Results.{refused_at}
 use Rattle.rules.specs.Refusals.{ends_too_soon, no_such_line, holds_line_end, bad_table}
 use Rattle.rules.specs.Commands.{line_of}
 use Rattle.rules.specs.State.{over, taken, has_ended, same_state}
@@ -142,11 +142,11 @@ module _ (rev : Revision) (t : List ℤ) (n k : ℕ) (l : List ℕ) where
   row_told a b s (holds r) d = line_told (record { line = a; no_end = b; before = s; row = d }) (say_out (line_of rev l)) (line_sound rev l)
   row_told a b s bad d = row_itself a b s d
 
-  before_told : LineOfTable t n k → NoLineEnd l → (x : Before) → BeforeIs t n k x
+  before_told : LineOfTable t n k → NoLineEnd l → (x : Option State) → BeforeIs t n k x
       → EditSays (on_before x (refused bad_table (k - 1)) (λ p. on_before (state_in (found_at t n k)) (refused bad_table k) (new_line_verdict p)))
   unfolding EditSays
-  before_told a b (From p) s = row_told a b s (found_at t n k) refl
-  before_told a b Bad s = row_before a b s.0 s.1
+  before_told a b (Some p) s = row_told a b s (found_at t n k) refl
+  before_told a b None s = row_before a b s.0 s.1
 
   edit_says : EditSays (edit_of rev t n k l)
   unfolding EditSays edit_of edit_rows
@@ -194,27 +194,27 @@ module _ (rev : Revision) (t : List ℤ) (n k : ℕ) (l : List ℕ) where
 
   -- ---- the answer
 
-  why : (e : Refusal) (i : ℕ) (v : Verdict (Span Command State) Refusal) → EditSays v → meeting_of v ≡ Refused e i → LineStays rev t n k l e i
+  why : (e : Refusal) (i : ℕ) (v : Verdict (Span Command State) Refusal) → EditSays v → meeting_of v ≡ refused_at e i → LineStays rev t n k l e i
   unfolding EditSays
   why e i (accepted s) w h = absurd (let z : ◌≡◌ {A = ℕ} 0 1 = cc in omega arith)
   why e i (refused a j) w h =
-      let x : a ≡ e = cc in
-      let y : j ≡ i = cc in
+      let x : a ≡ e = (refused_same h).0 in
+      let y : j ≡ i = (refused_same h).1 in
       subst₂ (LineStays rev t n k l) x y w
 
-  where_met : (m : ℕ) (v : Verdict (Span Command State) Refusal) → EditSays v → meeting_of v ≡ Done m → Meets rev t n k l m
+  where_met : (m : ℕ) (v : Verdict (Span Command State) Refusal) → EditSays v → meeting_of v ≡ Ok m → Meets rev t n k l m
   unfolding EditSays
   where_met m (accepted s) w h = let x : s.meeting ≡ m = cc in subst (Meets rev t n k l) x w
   where_met m (refused a j) w h = absurd (let z : ◌≡◌ {A = ℕ} 0 1 = cc in omega arith)
 
 module _ (rev : Revision) (t : List ℤ) (n k : ℕ) (l : List ℕ) where
-  pub stays_exactly : (e : Refusal) (i : ℕ) → Exactly (meeting_answer rev t n k l ≡ Refused e i) (LineStays rev t n k l e i)
+  pub stays_exactly : (e : Refusal) (i : ℕ) → Exactly (meeting_answer rev t n k l ≡ refused_at e i) (LineStays rev t n k l e i)
   unfolding meeting_answer
   stays_exactly e i = (λ h. why rev t n k l e i (edit_of rev t n k l) (edit_says rev t n k l) h, λ w. ap meeting_of (refused_edit rev t n k l w))
 
-  pub meets_exactly : (m : ℕ) → Exactly (meeting_answer rev t n k l ≡ Done m) (Meets rev t n k l m)
+  pub meets_exactly : (m : ℕ) → Exactly (meeting_answer rev t n k l ≡ Ok m) (Meets rev t n k l m)
   unfolding meeting_answer
   meets_exactly m = (
     λ h. where_met rev t n k l m (edit_of rev t n k l) (edit_says rev t n k l) h,
-    λ w. let a = met_edit rev t n k l w in ap meeting_of a.1 ∙ ap Done a.2,
+    λ w. let a = met_edit rev t n k l w in ap meeting_of a.1 ∙ ap Ok a.2,
   )

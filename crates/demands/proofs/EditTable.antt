@@ -8,6 +8,7 @@ use native.Mathlib.Omega.{arith}
 use lib.IntN.{ℤ}
 use lib.ListN.{length, take, drop, length-append, take-append-drop}
 use lib.Seq.{take_at, drop_at, length-take-le}
+use Rattle.std.specs.Prelude.{Ok, Err}
 use Rattle.lists.specs.Put.{put_at}
 use Rattle.lists.proofs.Put.{put_length, put_before, put_after}
 use Rattle.runs.specs.Machine.{accepted, refused, Entry, all_hold, Span}
@@ -15,10 +16,9 @@ use Rattle.runs.specs.Agreement.{FirstAgreement}
 use Rattle.rules.specs.declared.Command.{Command}
 use Rattle.rules.specs.declared.State.{State}
 use Rattle.rules.specs.declared.Refusal.{Refusal}
-use Rattle.rules.specs.declared.Answer.TheVariants.{Done, Refused}
-use Rattle.rules.specs.declared.HoleAnswer.TheVariants as H
 use Rattle.rules.specs.declared.Revision.{Revision}
 use Rattle.rules.specs.declared.Counts.{Counts}
+use Rattle.rules.specs.Results.{refused_at}
 use Rattle.rules.specs.Refusals.{no_such_line}
 use Rattle.rules.specs.Numbers.{max_lines}
 use Rattle.rules.specs.State.{start}
@@ -83,7 +83,7 @@ module _ (rev : Revision) (rs : Rows) (rest : List ℤ) (ok : RowsOk rs) (few : 
   edit_of_lem = rw (sizes_fit_lem (table_numbers rs ++ rest) (length rs) (sizes rs refl), line_is (length rs) k a b, hl, entries_table rs rest ok)
 
   pub edit_refuses : (c : Counts) (e : Refusal) (i : ℕ) → edit_rows rev (all_hold rs) k l ≡ refused e i
-      → (edit_answer rev (table_numbers rs ++ rest) (length rs) k l c ≡ Refused e i) × (edit_leaves rev (table_numbers rs ++ rest) (length rs) k l c ≡ table_numbers rs ++ rest)
+      → (edit_answer rev (table_numbers rs ++ rest) (length rs) k l c ≡ refused_at e i) × (edit_leaves rev (table_numbers rs ++ rest) (length rs) k l c ≡ table_numbers rs ++ rest)
       × (edit_counts rev (table_numbers rs ++ rest) (length rs) k l c ≡ c)
   unfolding edit_answer edit_leaves edit_counts
   edit_refuses c e i h =
@@ -110,7 +110,7 @@ module _ (rev : Revision) (rs : Rows) (rest : List ℤ) (ok : RowsOk rs) (few : 
           counted_fit rev (table_numbers rs ++ rest) (length rs) k l c s (edit_of_lem ∙ h)
           (ap (λ (es : List (Entry Command State)). counts_fit (old_rows es k s) c) (entries_table rs rest ok) ∙ f)
 
-      pub edit_accepts : edit_answer rev (table_numbers rs ++ rest) (length rs) k l c ≡ Done s.meeting
+      pub edit_accepts : edit_answer rev (table_numbers rs ++ rest) (length rs) k l c ≡ Ok s.meeting
       unfolding edit_answer
       edit_accepts = rw counted_accepts
 
@@ -129,7 +129,7 @@ module _ (rev : Revision) (rs : Rows) (rest : List ℤ) (ok : RowsOk rs) (few : 
     -- ---- outside the span
 
     hole_answer_lem : (ns : Rows) → length ns ≡ length rs → RowsOk ns → (j : ℕ)
-        → hole_answer (table_numbers ns ++ rest) (length rs) j ≡ cond (is_line (length rs) j) (hole_in (all_hold ns) j) (H.Refused no_such_line 0)
+        → hole_answer (table_numbers ns ++ rest) (length rs) j ≡ cond (is_line (length rs) j) (hole_in (all_hold ns) j) (refused_at no_such_line 0)
     unfolding hole_answer
     hole_answer_lem ns e g j =
         rw (sizes_fit_lem (table_numbers ns ++ rest) (length rs) (sizes ns e), rw e at (entries_table ns rest g))
@@ -139,7 +139,7 @@ module _ (rev : Revision) (rs : Rows) (rest : List ℤ) (ok : RowsOk rs) (few : 
           → hole_answer (table_numbers (put_at rs (k - 1) s.rows) ++ rest) (length rs) j ≡ hole_answer (table_numbers rs ++ rest) (length rs) j
       same_hole_lem j f =
           hole_answer_lem (put_at rs (k - 1) s.rows) new_length g j
-          ∙ cond_same (is_line (length rs) j) (H.Refused no_such_line 0) (λ t. let p = line_says (length rs) j t in f p.0 p.1)
+          ∙ cond_same (is_line (length rs) j) (refused_at no_such_line 0) (λ t. let p = line_says (length rs) j t in f p.0 p.1)
           ∙ sym (hole_answer_lem rs refl ok j)
 
       pub same_outside : SameOutside (table_numbers rs ++ rest) (table_numbers (put_at rs (k - 1) s.rows) ++ rest) (length rs) k s.meeting

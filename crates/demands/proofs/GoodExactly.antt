@@ -6,7 +6,7 @@ use Prim.Native.Nat.{ℕ, ◌+◌, ◌*◌, ◌≤◌}
 use native.Mathlib.Omega.{arith}
 use lib.IntN.{ℤ}
 use lib.ListN.{length, drop}
-use Rattle.rules.specs.declared.Answer.TheVariants.{Done}
+use Rattle.std.specs.Prelude.{Ok}
 use Rattle.rules.specs.declared.Revision.{Revision}
 use Rattle.rules.specs.Rows.{row_width, table_numbers, Good}
 use Rattle.rules.specs.Reading.{Rows, read_answer, read_leaves}
@@ -20,17 +20,17 @@ use Rattle.answers.proofs.GoodTables.{file_table, good_whole}
 
 module _ (rev : Revision) (t : List ℤ) (n : ℕ) (rs : Rows) (g : Good t n rs) where
   -- the file of a good table, read into the table itself, changes nothing
-  pub good_read : (read_answer rev (text_with_comments rs) t ≡ Done n) × (read_leaves rev (text_with_comments rs) t ≡ t)
+  pub good_read : (read_answer rev (text_with_comments rs) t ≡ Ok n) × (read_leaves rev (text_with_comments rs) t ≡ t)
   good_read =
       let w = good_whole t n rs g in
       let f = commented_file_back rev rs w.rows in
       let room : row_width * length rs ≤ length t = omega (arith, w.count, w.room) in
       let m : 0 + length (table_numbers rs) ≡ row_width * n = omega (arith, table_length rs, w.count) in (
-        read_accepts rev (text_with_comments rs) t rs f room ∙ ap Done w.count,
+        read_accepts rev (text_with_comments rs) t rs f room ∙ ap Ok w.count,
         read_writes rev (text_with_comments rs) t rs f room ∙ ap (λ (j : ℕ). table_numbers rs ++ drop j t) m ∙ sym w.numbers,
       )
 
-pub read_good : (rev : Revision) (bs : List ℕ) (t : List ℤ) (n : ℕ) → read_answer rev bs t ≡ Done n → GoodTable (read_leaves rev bs t) n
+pub read_good : (rev : Revision) (bs : List ℕ) (t : List ℤ) (n : ℕ) → read_answer rev bs t ≡ Ok n → GoodTable (read_leaves rev bs t) n
 read_good rev bs t n h =
     let d = read_done rev bs t n h in
     record {

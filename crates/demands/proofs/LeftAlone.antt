@@ -9,6 +9,8 @@ use borrow.Author.Tests.{leb-true}
 use lib.Dec.{leb}
 use lib.IntN.{ℤ}
 use lib.ListN.{length, take, drop}
+use Rattle.std.specs.Prelude.{Ok}
+use Rattle.rules.proofs.Said.{refused_same}
 use Rattle.lists.specs.Put.{put_at}
 use Rattle.lists.proofs.Put.{put_length, put_before, put_after}
 use Rattle.runs.specs.Machine.{Verdict, accepted, refused, on_verdict, Span}
@@ -16,10 +18,10 @@ use Rattle.rules.specs.declared.Command.{Command}
 use Rattle.rules.specs.declared.State.{State}
 use Rattle.lists.proofs.Choice.{cond_all}
 use Rattle.rules.specs.declared.Refusal.{Refusal}
-use Rattle.rules.specs.declared.Answer.TheVariants.{Done, Refused}
 use Rattle.rules.specs.declared.Revision.{Revision}
 use Rattle.rules.specs.declared.Counts.{Counts}
-use Rattle.rules.specs.Refusals.{no_column, in_column, no_room, bad_table}
+use Rattle.rules.specs.Results.{refused_at}
+use Rattle.rules.specs.Refusals.{refusal_number, refusal_column, no_column, forbidden_byte, out_of_range, no_room, bad_table}
 use Rattle.rules.specs.Numbers.{max_lines, max_line}
 use Rattle.rules.specs.Rows.{row_width, table_numbers, entries_of}
 use Rattle.rules.specs.Reading.{Rows, file_of, has_room, in_room, with_rows, read_answer, read_leaves}
@@ -41,15 +43,15 @@ use Rattle.demands.specs.Demand1.{among, OnLine, column_refusals, ColumnOnly, re
 -- ---- reading
 
 -- a refusal that names no column, and one that does
-no_column_lem : (e : Refusal) → among column_refusals e.number ≡ false → e.column ≡ no_column → ColumnOnly e
+no_column_lem : (e : Refusal) → among column_refusals (refusal_number e) ≡ false → refusal_column e ≡ no_column → ColumnOnly e
 no_column_lem e h c = record { named = λ k. absurd (false≢true (sym h ∙ k)); nought = λ _. c }
 
-in_column_lem : (c n : ℕ) → among column_refusals n ≡ true → 1 ≤ c → c ≤ max_line → ColumnOnly (in_column c n)
-in_column_lem c n h p q = record { named = λ _. (p, q); nought = λ k. absurd (false≢true (sym k ∙ h)) }
+in_column : (e : Refusal) → among column_refusals (refusal_number e) ≡ true → 1 ≤ refusal_column e → refusal_column e ≤ max_line → ColumnOnly e
+in_column e h p q = record { named = λ _. (p, q); nought = λ k. absurd (false≢true (sym k ∙ h)) }
 
 -- a refusal that reading gives
 abbrev InRead : Refusal → ℕ → Type 0
-InRead e i = (among read_refusals e.number ≡ true) × (i ≤ max_lines + 1) × ColumnOnly e
+InRead e i = (among read_refusals (refusal_number e) ≡ true) × (i ≤ max_lines + 1) × ColumnOnly e
 
 file_refusals : (rev : Revision) (bs : List ℕ) (e : Refusal) (i : ℕ) → file_of rev bs ≡ refused e i → InRead e i
 file_refusals rev bs e i h =
@@ -57,9 +59,9 @@ file_refusals rev bs e i h =
     (λ j n. record {
       line = record {
         long = plain _ refl refl refl j n;
-        byte = λ c p q. (refl, n, in_column_lem c 4 refl p q);
+        byte = λ c p q. (refl, n, in_column (forbidden_byte c) refl p q);
         form = plain _ refl refl refl j n;
-        range = λ c p q. (refl, n, in_column_lem c 7 refl p q);
+        range = λ c p q. (refl, n, in_column (out_of_range c) refl p q);
       };
       step = record {
         phase = plain _ refl refl refl j n;
@@ -74,25 +76,25 @@ file_refusals rev bs e i h =
       short = plain _ refl refl refl j n;
     }) ((refused_says bs e i).0 h)
   where
-    plain : (e : Refusal) → among read_refusals e.number ≡ true → among column_refusals e.number ≡ false → e.column ≡ no_column
+    plain : (e : Refusal) → among read_refusals (refusal_number e) ≡ true → among column_refusals (refusal_number e) ≡ false → refusal_column e ≡ no_column
         → (j : ℕ) → j ≤ max_lines + 1 → InRead e j
     plain e a b c j n = (a, n, no_column_lem e b c)
 
 module _ (rev : Revision) (bs : List ℕ) (t : List ℤ) where
-  no_room_lem : (rs : Rows) (e : Refusal) (i : ℕ) (b : Bool) → cond b (Done (length rs)) (Refused no_room 0) ≡ Refused e i
+  no_room_lem : (rs : Rows) (e : Refusal) (i : ℕ) (b : Bool) → cond b (Ok (length rs)) (refused_at no_room 0) ≡ refused_at e i
       → (cond b (put_at t 0 (table_numbers rs)) t ≡ t) × InRead e i
   no_room_lem rs e i true h = absurd (let z : ◌≡◌ {A = ℕ} 0 1 = cc in omega arith)
-  no_room_lem rs e i false h = let d : no_room ≡ e = cc in let z : 0 ≡ i = cc in (refl, subst₂ InRead d z (refl, omega arith, no_column_lem no_room refl refl))
+  no_room_lem rs e i false h = let d : no_room ≡ e = (refused_same h).0 in let z : 0 ≡ i = (refused_same h).1 in (refl, subst₂ InRead d z (refl, omega arith, no_column_lem no_room refl refl))
 
-  not_read_lem : (e : Refusal) (i : ℕ) (v : Verdict Rows Refusal) → file_of rev bs ≡ v → on_verdict v Refused (in_room t) ≡ Refused e i
+  not_read_lem : (e : Refusal) (i : ℕ) (v : Verdict Rows Refusal) → file_of rev bs ≡ v → on_verdict v refused_at (in_room t) ≡ refused_at e i
       → (on_verdict v (λ e i. t) (with_rows t) ≡ t) × InRead e i
   not_read_lem e i (accepted rs) w h = no_room_lem rs e i (has_room t (length rs)) h
   not_read_lem e i (refused a j) w h =
-      let d : a ≡ e = cc in
-      let z : j ≡ i = cc in
+      let d : a ≡ e = (refused_same h).0 in
+      let z : j ≡ i = (refused_same h).1 in
       (refl, subst₂ InRead d z (file_refusals rev bs a j w))
 
-  read_beyond : (n : ℕ) → read_answer rev bs t ≡ Done n → drop (row_width * n) (read_leaves rev bs t) ≡ drop (row_width * n) t
+  read_beyond : (n : ℕ) → read_answer rev bs t ≡ Ok n → drop (row_width * n) (read_leaves rev bs t) ≡ drop (row_width * n) t
   read_beyond n h =
       let d = read_done rev bs t n h in
       ap (drop (row_width * n)) (read_writes rev bs t d.rows d.read d.room)
@@ -103,11 +105,11 @@ module _ (rev : Revision) (bs : List ℕ) (t : List ℤ) where
   room_kept rs false h = refl
 
   -- a refused file's counts
-  no_room_counts : (rs : Rows) (e : Refusal) (i : ℕ) (b : Bool) → cond b (Done (length rs)) (Refused no_room 0) ≡ Refused e i → cond b (counts_of rs) no_counts ≡ no_counts
+  no_room_counts : (rs : Rows) (e : Refusal) (i : ℕ) (b : Bool) → cond b (Ok (length rs)) (refused_at no_room 0) ≡ refused_at e i → cond b (counts_of rs) no_counts ≡ no_counts
   no_room_counts rs e i true h = absurd (let z : ◌≡◌ {A = ℕ} 0 1 = cc in omega arith)
   no_room_counts rs e i false h = refl
 
-  counts_are_none : (e : Refusal) (i : ℕ) (v : Verdict Rows Refusal) → on_verdict v Refused (in_room t) ≡ Refused e i
+  counts_are_none : (e : Refusal) (i : ℕ) (v : Verdict Rows Refusal) → on_verdict v refused_at (in_room t) ≡ refused_at e i
       → on_verdict v (λ e i. no_counts) (λ rs. cond (has_room t (length rs)) (counts_of rs) no_counts) ≡ no_counts
   counts_are_none e i (accepted rs) h = no_room_counts rs e i (has_room t (length rs)) h
   counts_are_none e i (refused a j) h = refl
@@ -130,7 +132,7 @@ module _ (rev : Revision) (bs : List ℕ) (t : List ℤ) where
 -- ---- editing
 
 abbrev InEdit : ℕ → Refusal → ℕ → Type 0
-InEdit n e i = (among edit_refusals e.number ≡ true) × OnLine (n + 1) (max_lines + 1) i × ColumnOnly e
+InEdit n e i = (among edit_refusals (refusal_number e) ≡ true) × OnLine (n + 1) (max_lines + 1) i × ColumnOnly e
 
 module _ (rev : Revision) (t : List ℤ) (n k : ℕ) (l : List ℕ) (c : Counts) where
   edit_refusals_lem : Told (InEdit n) (edit_of rev t n k l)
@@ -153,12 +155,12 @@ module _ (rev : Revision) (t : List ℤ) (n k : ℕ) (l : List ℕ) (c : Counts)
       (λ h m. let o : OnLine (n + 1) (max_lines + 1) k = (omega arith, omega arith) in
       record {
         long = plain _ refl refl refl k o;
-        byte = λ c p q. (refl, o, in_column_lem c 4 refl p q);
+        byte = λ c p q. (refl, o, in_column (forbidden_byte c) refl p q);
         form = plain _ refl refl refl k o;
-        range = λ c p q. (refl, o, in_column_lem c 7 refl p q);
+        range = λ c p q. (refl, o, in_column (out_of_range c) refl p q);
       })
     where
-      plain : (e : Refusal) → among edit_refusals e.number ≡ true → among column_refusals e.number ≡ false → e.column ≡ no_column
+      plain : (e : Refusal) → among edit_refusals (refusal_number e) ≡ true → among column_refusals (refusal_number e) ≡ false → refusal_column e ≡ no_column
           → (j : ℕ) → OnLine (n + 1) (max_lines + 1) j → InEdit n e j
       plain e a b c j o = (a, o, no_column_lem e b c)
 
@@ -173,10 +175,10 @@ module _ (rev : Revision) (t : List ℤ) (n k : ℕ) (l : List ℕ) (c : Counts)
   unfolding edit_counted
   counted_refusals = counted_told (edit_of rev t n k l) edit_refusals_lem
 
-  not_edited : (e : Refusal) (i : ℕ) (v : Verdict (Span Command State) Refusal) → Told (InEdit n) v → meeting_of v ≡ Refused e i
+  not_edited : (e : Refusal) (i : ℕ) (v : Verdict (Span Command State) Refusal) → Told (InEdit n) v → meeting_of v ≡ refused_at e i
       → (leaves_of t k v ≡ t) × InEdit n e i × (on_verdict v (λ e i. c) (λ s. counts_after (old_rows (entries_of n t) k s) s.rows c) ≡ c)
   not_edited e i (accepted s) w h = absurd (let z : ◌≡◌ {A = ℕ} 0 1 = cc in omega arith)
-  not_edited e i (refused a j) w h = let d : a ≡ e = cc in let z : j ≡ i = cc in (refl, subst₂ (InEdit n) d z w, refl)
+  not_edited e i (refused a j) w h = let d : a ≡ e = (refused_same h).0 in let z : j ≡ i = (refused_same h).1 in (refl, subst₂ (InEdit n) d z w, refl)
 
   module _ (s : Span Command State) (h : edit_of rev t n k l ≡ accepted s) (f : counts_fit (old_rows (entries_of n t) k s) c ≡ true) where
     -- the span's rows stand inside
@@ -239,33 +241,33 @@ module _ (rev : Revision) (t : List ℤ) (n k : ℕ) (l : List ℕ) (c : Counts)
 
 -- a refusal of a table of n rows, one of some
 abbrev pub TableRefusal : List ℕ → ℕ → Refusal → ℕ → Type 0
-TableRefusal some n e i = (among some e.number ≡ true) × OnLine n max_lines i × (e.column ≡ no_column)
+TableRefusal some n e i = (among some (refusal_number e) ≡ true) × OnLine n max_lines i × (refusal_column e ≡ no_column)
 
 pub at_zero : (n : ℕ) → OnLine n max_lines 0
 at_zero n = (omega arith, omega arith)
 
-pub rows_named : (some : List ℕ) (n : ℕ) → among some bad_table.number ≡ true → n ≤ max_lines → (j : ℕ) → j ≤ n → TableRefusal some n bad_table j
+pub rows_named : (some : List ℕ) (n : ℕ) → among some (refusal_number bad_table) ≡ true → n ≤ max_lines → (j : ℕ) → j ≤ n → TableRefusal some n bad_table j
 rows_named some n h few j m = (h, (m, omega arith), refl)
 
 module _ (t : List ℤ) (n : ℕ) (b : List ℕ) where
-  no_block : (x : List ℕ) (e : Refusal) (i : ℕ) (c : Bool) → cond c (Done (length x)) (Refused no_room 0) ≡ Refused e i
+  no_block : (x : List ℕ) (e : Refusal) (i : ℕ) (c : Bool) → cond c (Ok (length x)) (refused_at no_room 0) ≡ refused_at e i
       → (cond c (put_at b 0 x) b ≡ b) × TableRefusal write_refusals n e i
   no_block x e i true h = absurd (let z : ◌≡◌ {A = ℕ} 0 1 = cc in omega arith)
-  no_block x e i false h = let d : no_room ≡ e = cc in let z : 0 ≡ i = cc in (refl, subst₂ (TableRefusal write_refusals n) d z (refl, at_zero n, refl))
+  no_block x e i false h = let d : no_room ≡ e = (refused_same h).0 in let z : 0 ≡ i = (refused_same h).1 in (refl, subst₂ (TableRefusal write_refusals n) d z (refl, at_zero n, refl))
 
-  not_written : (e : Refusal) (i : ℕ) (v : Verdict Rows Refusal) → Told (TableRefusal write_refusals n) v → on_verdict v Refused (λ rs. in_block b (text_of_rows rs)) ≡ Refused e i
+  not_written : (e : Refusal) (i : ℕ) (v : Verdict Rows Refusal) → Told (TableRefusal write_refusals n) v → on_verdict v refused_at (λ rs. in_block b (text_of_rows rs)) ≡ refused_at e i
       → (on_verdict v (λ e i. b) (λ rs. with_text b (text_of_rows rs)) ≡ b) × TableRefusal write_refusals n e i
   not_written e i (accepted rs) w h = no_block (text_of_rows rs) e i (leb (length (text_of_rows rs)) (length b)) h
-  not_written e i (refused a j) w h = let d : a ≡ e = cc in let z : j ≡ i = cc in (refl, subst₂ (TableRefusal write_refusals n) d z w)
+  not_written e i (refused a j) w h = let d : a ≡ e = (refused_same h).0 in let z : j ≡ i = (refused_same h).1 in (refl, subst₂ (TableRefusal write_refusals n) d z w)
 
-  write_inside : (m : ℕ) → write_answer t n b ≡ Done m → (m ≤ length b) × (m ≤ longest_line * n) × (n ≤ max_lines)
+  write_inside : (m : ℕ) → write_answer t n b ≡ Ok m → (m ≤ length b) × (m ≤ longest_line * n) × (n ≤ max_lines)
   write_inside m h =
       let d = write_done t n b m h in
       let g = rows_good t n d.rows d.verdict in
       let w = good_whole t n d.rows g in
       (omega (arith, d.counted, d.room), omega (arith, d.counted, text_length d.rows w.rows.within_range, w.count), (sizes_say t n g.fits).few)
 
-  write_beyond : (m : ℕ) → write_answer t n b ≡ Done m → drop m (write_leaves t n b) ≡ drop m b
+  write_beyond : (m : ℕ) → write_answer t n b ≡ Ok m → drop m (write_leaves t n b) ≡ drop m b
   write_beyond m h =
       let d = write_done t n b m h in
       ap (drop m) (write_writes t n b d.rows d.verdict d.room) ∙ put_after b 0 m (text_of_rows d.rows) (omega (arith, d.counted)) (omega (arith, d.counted, d.room))

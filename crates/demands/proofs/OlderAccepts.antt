@@ -3,12 +3,12 @@ use mathlib.Core.Path.{◌≡◌, refl, sym, ◌∙◌}
 use mathlib.Core.List.{List}
 use Prim.Native.Nat.{ℕ}
 use lib.IntN.{ℤ}
+use Rattle.std.specs.Prelude.{Ok}
 use Rattle.lists.specs.Words.{starts_with}
 use Rattle.rules.specs.declared.Command.{Command}
 use Rattle.rules.specs.declared.Revision.{Revision}
 use Rattle.rules.specs.declared.Counts.{Counts}
 use Rattle.rules.specs.declared.Revision.TheVariants.{Rev2019, Rev2021}
-use Rattle.rules.specs.declared.Answer.TheVariants.{Done}
 use Rattle.rules.specs.Numbers.{is_digit, digits_of, magnitude_of, unsigned_of, millionths, is_size, is_tool}
 use Rattle.rules.specs.Lines.{is_printable}
 use Rattle.rules.specs.Commands.{tool_form, form_of, in_range, meaning_of, command_of, line_of}
@@ -33,8 +33,8 @@ pub same_file : (v w : Revision) (bs : List ℕ) (t : List ℤ) → file_of v bs
 unfolding read_answer read_leaves read_counts
 same_file v w bs t e = (rw e, rw e, rw e)
 
-read : (bs : List ℕ) (t : List ℤ) (n : ℕ) → read_answer Rev2021 bs t ≡ Done n
-    → (read_answer Rev2019 bs t ≡ Done n) × (read_leaves Rev2019 bs t ≡ read_leaves Rev2021 bs t) × (read_counts Rev2019 bs t ≡ read_counts Rev2021 bs t)
+read : (bs : List ℕ) (t : List ℤ) (n : ℕ) → read_answer Rev2021 bs t ≡ Ok n
+    → (read_answer Rev2019 bs t ≡ Ok n) × (read_leaves Rev2019 bs t ≡ read_leaves Rev2021 bs t) × (read_counts Rev2019 bs t ≡ read_counts Rev2021 bs t)
 read bs t n h =
     let d = read_done Rev2021 bs t n h in
     let older = (file_iff bs d.rows).1 (older_reading ((file_iff {rev = Rev2021} bs d.rows).0 d.read)) in
@@ -52,8 +52,8 @@ new_line_lem : {rev : Revision} {t : List ℤ} {n k : ℕ} {l : List ℕ} {m : �
 new_line_lem (agree {c = c} left w sp d u h) = (c, sp)
 new_line_lem (last {c = c} w sp d u h) = (c, sp)
 
-edit : (t : List ℤ) (n k : ℕ) (l : List ℕ) (c : Counts) (m : ℕ) → edit_answer Rev2021 t n k l c ≡ Done m
-    → (edit_answer Rev2019 t n k l c ≡ Done m) × (edit_leaves Rev2019 t n k l c ≡ edit_leaves Rev2021 t n k l c) × (edit_counts Rev2019 t n k l c ≡ edit_counts Rev2021 t n k l c)
+edit : (t : List ℤ) (n k : ℕ) (l : List ℕ) (c : Counts) (m : ℕ) → edit_answer Rev2021 t n k l c ≡ Ok m
+    → (edit_answer Rev2019 t n k l c ≡ Ok m) × (edit_leaves Rev2019 t n k l c ≡ edit_leaves Rev2021 t n k l c) × (edit_counts Rev2019 t n k l c ≡ edit_counts Rev2021 t n k l c)
 edit t n k l c m h =
     let w = (new_line_lem ((edit_refused_exactly.done Rev2021 t n k l c m).0 h).meets).1 in
     let s = same_edit Rev2019 Rev2021 t n k l c (line_read (older_line w) ∙ sym (line_read w)) in

@@ -1,5 +1,5 @@
 -- A declaration with one digit is 5 by 2021 and never 5 by 2019; every other line is one form, and so has one answer, by both.
-use mathlib.Core.Path.{◌≡◌, refl, sym, ◌∙◌, subst}
+use mathlib.Core.Path.{ap, ◌≡◌, refl, sym, ◌∙◌, subst}
 use mathlib.Core.Bool.{Bool, true, false}
 use mathlib.Core.List.{List, ◌++◌}
 use Prim.Native.Nat.{ℕ, ◌≤◌}
@@ -8,12 +8,15 @@ use native.Mathlib.Decide.{ℕ_discrete}
 use borrow.Author.Tests.{le-leb}
 use lib.Dec.{leb}
 use lib.ListN.{length}
+use Rattle.std.specs.Prelude.{Result, Ok, Err}
 use Rattle.lists.specs.Words.{bytes, starts_with}
 use Rattle.lists.proofs.Choice.{cond_all}
+use Rattle.rules.specs.declared.Refusal.{Refusal}
+use Rattle.rules.specs.declared.Command.{Command}
 use Rattle.rules.specs.declared.Command.TheVariants.{Declare}
 use Rattle.rules.specs.declared.LineAnswer.{LineAnswer}
 use Rattle.rules.specs.declared.Revision.TheVariants.{Rev2019, Rev2021}
-use Rattle.rules.specs.Refusals.{no_such_form}
+use Rattle.rules.specs.Refusals.{refusal_number, no_such_form}
 use Rattle.rules.specs.Numbers.{max_line, is_digit, Decimal, millionths, is_size, is_tool}
 use Rattle.rules.specs.Lines.{is_printable}
 use Rattle.rules.specs.Commands.{Form, Formed, is, no_form, tool_form, form_of, says, says_no, in_range, meaning_of, command_of, line_of}
@@ -34,8 +37,13 @@ pub always_5 : (l : List ℕ) → OneDigit l → length l ≤ max_line → Print
 unfolding line_of command_of
 always_5 l w s p = rw (le-leb (length l) max_line s, printable_read p, no_form_2021 w)
 
+-- the refusal's number, 0 for a command
+abbrev number_in : Result Command Refusal → ℕ
+number_in (Ok c) = 0
+number_in (Err e) = refusal_number e
+
 abbrev Not5 : LineAnswer → Type 0
-Not5 a = a.refusal.number ≡ 5 → ⊥
+Not5 a = number_in a.command ≡ 5 → ⊥
 
 in_range_not_5 : (b : Bool) (c : ℕ) (a : LineAnswer) → Not5 a → Not5 (in_range b c a)
 unfolding in_range
@@ -48,12 +56,15 @@ command_not_5 l (one_digit {t = t} {d = d} w) =
     rw (form_read {rev = Rev2019} (declare_is w (omega arith) (omega arith)))
     (in_range_not_5 (is_tool t) _ _ (in_range_not_5 (is_size d) _ (says (Declare t (millionths d))) (λ e. omega arith)))
 
-pub never_5 : (l : List ℕ) → OneDigit l → Not5 (line_of Rev2019 l)
+not_5 : (l : List ℕ) → OneDigit l → Not5 (line_of Rev2019 l)
 unfolding line_of
-never_5 l w =
+not_5 l w =
     cond_all Not5 (leb (length l) max_line)
     (λ _. cond_all Not5 (is_printable l) (λ _. command_not_5 l w) (λ _ e. omega arith))
     (λ _ e. omega arith)
+
+pub never_5 : (l : List ℕ) → OneDigit l → line_of Rev2019 l ≡ says_no no_such_form → ⊥
+never_5 l w e = not_5 l w (ap (λ (a : LineAnswer). number_in a.command) e)
 
 -- ---- every other line
 

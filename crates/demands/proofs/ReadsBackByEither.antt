@@ -4,8 +4,8 @@ use mathlib.Core.List.{List}
 use Prim.Native.Nat.{ℕ}
 use lib.IntN.{ℤ}
 use lib.ListN.{take}
+use Rattle.std.specs.Prelude.{Ok}
 use Rattle.rules.specs.declared.Revision.TheVariants.{Rev2019, Rev2021}
-use Rattle.rules.specs.declared.Answer.TheVariants.{Done}
 use Rattle.rules.specs.Writing.{text_of_rows, write_answer, write_leaves}
 use Rattle.round.proofs.Files.{file_back}
 use Rattle.answers.proofs.GoodTables.{good_whole}
@@ -14,7 +14,7 @@ use Rattle.demands.specs.ReadsBackByEither.{SameByEither, ReadsBackByEither}
 use Rattle.demands.proofs.WriteBack.{write_back}
 use Rattle.demands.proofs.OlderAccepts.{same_file}
 
-module _ (t : List ℤ) (n : ℕ) (b : List ℕ) (m : ℕ) (h : write_answer t n b ≡ Done m) where
+module _ (t : List ℤ) (n : ℕ) (b : List ℕ) (m : ℕ) (h : write_answer t n b ≡ Ok m) where
   by_either : (u : List ℤ) → SameByEither (take m (write_leaves t n b)) u
   by_either u =
       let d = write_done t n b m h in

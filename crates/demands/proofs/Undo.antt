@@ -8,6 +8,7 @@ use native.Mathlib.Omega.{arith}
 use lib.IntN.{ℤ}
 use lib.ListN.{length, drop}
 use lib.Seq.{drop_at}
+use Rattle.std.specs.Prelude.{Ok}
 use Rattle.lists.specs.Exactly.{Exactly}
 use Rattle.lists.specs.Put.{put_at}
 use Rattle.runs.specs.Machine.{Out, yields, on_out, accepted, refused, all_hold}
@@ -20,7 +21,6 @@ use Rattle.rules.specs.declared.Command.{Command}
 use Rattle.rules.specs.declared.Refusal.{Refusal}
 use Rattle.rules.specs.declared.Revision.{Revision}
 use Rattle.rules.specs.declared.Counts.{Counts}
-use Rattle.rules.specs.declared.Answer.TheVariants.{Done}
 use Rattle.rules.specs.Refusals.{bad_table, ends_too_soon}
 use Rattle.rules.specs.Lines.{LF, CR}
 use Rattle.rules.specs.Commands.{line_of}
@@ -114,7 +114,7 @@ module _ (rev : Revision) (t : List ℤ) (n : ℕ) (rs : Rows) (g : Good t n rs)
       let own = own_fits rev rs rest v.rows.within_range v.rows.count k e.from e.upto l hl e.span made in
       subst₂ (λ (z : List ℤ) (j : ℕ). EditsTo rev j z (counts_of rs) k l m (table_numbers new ++ rest) (counts_of new)) (sym v.numbers) v.count
       (record {
-        answer = edit_accepts rev rs rest v.rows.within_range v.rows.count k e.from e.upto l hl e.span made (counts_of rs) own ∙ ap Done e.meets;
+        answer = edit_accepts rev rs rest v.rows.within_range v.rows.count k e.from e.upto l hl e.span made (counts_of rs) own ∙ ap Ok e.meets;
         table = edit_writes rev rs rest v.rows.within_range v.rows.count k e.from e.upto l hl e.span made (counts_of rs) own
             ∙ ap (λ (z : Rows). table_numbers z ++ rest) e.rows;
         counts = own_counts rev rs rest v.rows.within_range v.rows.count k e.from e.upto l hl e.span made ∙ ap counts_of e.rows;
@@ -171,7 +171,7 @@ undo = record { undo = undone; any_counts = undone_table }
 
 -- ---- the texts
 
-own_line : (rev : Revision) (bs : List ℕ) (t : List ℤ) (n : ℕ) (rs : Rows) → read_answer rev bs t ≡ Done n → Good (read_leaves rev bs t) n rs
+own_line : (rev : Revision) (bs : List ℕ) (t : List ℤ) (n : ℕ) (rs : Rows) → read_answer rev bs t ≡ Ok n → Good (read_leaves rev bs t) n rs
     → (k : ℕ) (w : LineOf bs k) → SpellsLine rev w.line (row_of rs k).command
 own_line rev bs t n rs h g k w =
     let d = read_done rev bs t n h in

@@ -1,13 +1,13 @@
 -- Demand 2. A file is accepted exactly where it obeys, and its table holds the rows of its one reading, each line with its
 -- hole; it is refused exactly at its lowest faulty line. A good table that is written and read back gives that table without
 -- its comment rows.
-use Rattle.std.specs.Prelude.{◌≡◌, List, ℕ, ◌*◌, ◌<◌, ◌≤◌, ℤ, length}
+use Rattle.std.specs.Prelude.{◌≡◌, List, ℕ, ◌*◌, ◌<◌, ◌≤◌, ℤ, length, Ok}
 use Rattle.lists.specs.Put.{put_at}
 use Rattle.lists.specs.Exactly.{Exactly}
 use Rattle.runs.specs.Machine.{all_hold}
 use Rattle.rules.specs.declared.Refusal.{Refusal}
-use Rattle.rules.specs.declared.Answer.TheVariants.{Done, Refused}
 use Rattle.rules.specs.declared.Revision.{Revision}
+use Rattle.rules.specs.Results.{refused_at}
 use Rattle.rules.specs.Refusals.{no_room}
 use Rattle.rules.specs.Rows.{row_width, table_numbers, entries_of, table_room, Good}
 use Rattle.rules.specs.Reading.{Rows, row_of, state_before, read_answer, read_leaves}
@@ -34,14 +34,14 @@ pub data ReadRefused (rev : Revision) (bs : List ℕ) (t : List ℤ) : Refusal �
 
 pub record ReadsRight (rev : Revision) (bs : List ℕ) (t : List ℤ) : Type 0 where
   -- accepted exactly where it obeys and there is room for its rows; in numbers for the longest table there always is
-  pub obeys : (n : ℕ) → read_answer rev bs t ≡ Done n → Obeys rev bs
-  pub accepted : (rs : Rows) → ReadingOf rev bs rs → row_width * length rs ≤ length t → read_answer rev bs t ≡ Done (length rs)
-  pub accepted_all : table_room ≤ length t → (w : Obeys rev bs) → read_answer rev bs t ≡ Done (length w.rows)
+  pub obeys : (n : ℕ) → read_answer rev bs t ≡ Ok n → Obeys rev bs
+  pub accepted : (rs : Rows) → ReadingOf rev bs rs → row_width * length rs ≤ length t → read_answer rev bs t ≡ Ok (length rs)
+  pub accepted_all : table_room ≤ length t → (w : Obeys rev bs) → read_answer rev bs t ≡ Ok (length w.rows)
   -- one reading, and the table holds it
   pub one_reading : (rs ss : Rows) → ReadingOf rev bs rs → ReadingOf rev bs ss → rs ≡ ss
-  pub holds : (n : ℕ) (rs : Rows) → read_answer rev bs t ≡ Done n → ReadingOf rev bs rs → HoldsReading rev bs t n rs
+  pub holds : (n : ℕ) (rs : Rows) → read_answer rev bs t ≡ Ok n → ReadingOf rev bs rs → HoldsReading rev bs t n rs
   -- refused exactly so; 15 is no file's fault
-  pub refused : (e : Refusal) (i : ℕ) → Exactly (read_answer rev bs t ≡ Refused e i) (ReadRefused rev bs t e i)
+  pub refused : (e : Refusal) (i : ℕ) → Exactly (read_answer rev bs t ≡ refused_at e i) (ReadRefused rev bs t e i)
   pub no_room_last : (i : ℕ) → Faulty rev bs no_room i → ⊥
 
 pub record Demand2 : Type 0 where

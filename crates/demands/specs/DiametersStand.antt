@@ -1,13 +1,10 @@
 -- Tool diameters stand with the tools. In a good table a declared tool has one diameter, that of the one row that declares
 -- it, and every hole's tool has one; an accepted edit leaves the diameter of each tool that neither the old nor the new
 -- command of the edited line declares; and an edited table answers as the freshly read one.
-use Rattle.std.specs.Prelude.{◌≡◌, true, List, ℕ, ◌≤◌, ℤ, length}
+use Rattle.std.specs.Prelude.{◌≡◌, true, List, ℕ, ◌≤◌, ℤ, length, Some, Ok}
 use Rattle.rules.specs.declared.Command.{Command}
 use Rattle.rules.specs.declared.Command.TheVariants.{Declare}
 use Rattle.rules.specs.declared.Hole.{Hole}
-use Rattle.rules.specs.declared.Answer.TheVariants.{Done}
-use Rattle.rules.specs.declared.HoleAnswer.TheVariants.{Makes}
-use Rattle.rules.specs.declared.DiameterAnswer.TheVariants.{Is}
 use Rattle.rules.specs.declared.Revision.{Revision}
 use Rattle.rules.specs.declared.Counts.{Counts}
 use Rattle.rules.specs.Numbers.{max_file}
@@ -33,12 +30,12 @@ LeavesTool tool c = (d : ℕ) → c ≡ Declare tool d → ⊥
 pub record DiametersOf (t : List ℤ) (n : ℕ) (rs : Rows) : Type 0 where
   -- one row, and its diameter
   pub one_row : (tool c d i j : ℕ) → DeclaredAt rs tool c i → DeclaredAt rs tool d j → (i ≡ j) × (c ≡ d)
-  pub its_diameter : (tool d j : ℕ) → DeclaredAt rs tool d j → diameter_answer t n tool ≡ Is d
-  pub its_row : (tool d : ℕ) → diameter_answer t n tool ≡ Is d → (j : ℕ) × DeclaredAt rs tool d j
+  pub its_diameter : (tool d j : ℕ) → DeclaredAt rs tool d j → diameter_answer t n tool ≡ Ok d
+  pub its_row : (tool d : ℕ) → diameter_answer t n tool ≡ Ok d → (j : ℕ) × DeclaredAt rs tool d j
   -- every hole's tool has one
-  pub of_holes : (k : ℕ) (h : Hole) → hole_answer t n k ≡ Makes h → (d : ℕ) × (diameter_answer t n h.tool ≡ Is d)
+  pub of_holes : (k : ℕ) (h : Hole) → hole_answer t n k ≡ Ok (Some h) → (d : ℕ) × (diameter_answer t n h.tool ≡ Ok d)
   -- line k gets the text l: each tool that neither its old nor its new command declares
-  pub after_edit : (rev : Revision) (k : ℕ) (l : List ℕ) (counts : Counts) (m tool : ℕ) → edit_answer rev t n k l counts ≡ Done m
+  pub after_edit : (rev : Revision) (k : ℕ) (l : List ℕ) (counts : Counts) (m tool : ℕ) → edit_answer rev t n k l counts ≡ Ok m
       → LeavesTool tool (row_of rs k).command → ((c : Command) → SpellsLine rev l c → LeavesTool tool c)
       → diameter_answer (edit_leaves rev t n k l counts) n tool ≡ diameter_answer t n tool
 
@@ -53,5 +50,5 @@ pub record AnswersAfresh (rev : Revision) (bs : List ℕ) (t : List ℤ) (n k : 
 
 pub record DiametersStand : Type 0 where
   pub good : (t : List ℤ) (n : ℕ) (rs : Rows) → Good t n rs → DiametersOf t n rs
-  pub afresh : (rev : Revision) (bs : List ℕ) (t : List ℤ) (n : ℕ) → read_answer rev bs t ≡ Done n → (k : ℕ) (w : LineOf bs k) (l : List ℕ)
+  pub afresh : (rev : Revision) (bs : List ℕ) (t : List ℤ) (n : ℕ) → read_answer rev bs t ≡ Ok n → (k : ℕ) (w : LineOf bs k) (l : List ℕ)
       → no_line_end l ≡ true → length (edited w l) ≤ max_file → AnswersAfresh rev bs t n k w l

@@ -1,16 +1,16 @@
 -- An edit's refusals, given exactly when: document 01, "The answers", the table and edit; and last, by document 02's #103, that for
 -- the counts handed in. For every table, good or not, and whatever counts.
-use Rattle.std.specs.Prelude.{◌≡◌, List, [], ◌∷◌, ◌++◌, ℕ, ◌+◌, ◌-◌, ◌<◌, ◌≤◌, ℤ, length, take, drop}
+use Rattle.std.specs.Prelude.{◌≡◌, List, [], ◌∷◌, ◌++◌, ℕ, ◌+◌, ◌-◌, ◌<◌, ◌≤◌, ℤ, length, take, drop, Ok}
 use Rattle.lists.specs.Exactly.{Exactly}
 use Rattle.runs.specs.Machine.{Row, Entry, holds, bad, all_hold, last_of}
 use Rattle.runs.specs.Agreement.{Unmet}
 use Rattle.rules.specs.declared.Command.{Command}
 use Rattle.rules.specs.declared.State.{State}
 use Rattle.rules.specs.declared.Refusal.{Refusal}
-use Rattle.rules.specs.declared.Answer.TheVariants.{Done, Refused}
 use Rattle.rules.specs.declared.Revision.{Revision}
 use Rattle.rules.specs.declared.Way.{Way}
 use Rattle.rules.specs.declared.Counts.{Counts}
+use Rattle.rules.specs.Results.{refused_at}
 use Rattle.rules.specs.Refusals.{ends_too_soon, no_such_line, holds_line_end, bad_table}
 use Rattle.rules.specs.Numbers.{max_tool}
 use Rattle.rules.specs.Lines.{LF, CR, NoByte}
@@ -105,11 +105,11 @@ pub record EditMeets (rev : Revision) (t : List ℤ) (n k : ℕ) (l : List ℕ) 
 
 pub record EditRefusedExactly : Type 0 where
   pub refused : (rev : Revision) (t : List ℤ) (n k : ℕ) (l : List ℕ) (c : Counts) (e : Refusal) (i : ℕ)
-      → Exactly (edit_answer rev t n k l c ≡ Refused e i) (EditRefused rev t n k l c e i)
+      → Exactly (edit_answer rev t n k l c ≡ refused_at e i) (EditRefused rev t n k l c e i)
   pub done : (rev : Revision) (t : List ℤ) (n k : ℕ) (l : List ℕ) (c : Counts) (m : ℕ)
-      → Exactly (edit_answer rev t n k l c ≡ Done m) (EditMeets rev t n k l c m)
+      → Exactly (edit_answer rev t n k l c ≡ Ok m) (EditMeets rev t n k l c m)
   -- and the question where an edit would meet
   pub stays : (rev : Revision) (t : List ℤ) (n k : ℕ) (l : List ℕ) (e : Refusal) (i : ℕ)
-      → Exactly (meeting_answer rev t n k l ≡ Refused e i) (LineStays rev t n k l e i)
+      → Exactly (meeting_answer rev t n k l ≡ refused_at e i) (LineStays rev t n k l e i)
   pub would_meet : (rev : Revision) (t : List ℤ) (n k : ℕ) (l : List ℕ) (m : ℕ)
-      → Exactly (meeting_answer rev t n k l ≡ Done m) (Meets rev t n k l m)
+      → Exactly (meeting_answer rev t n k l ≡ Ok m) (Meets rev t n k l m)

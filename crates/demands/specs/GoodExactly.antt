@@ -1,6 +1,5 @@
 -- A table is good exactly when some accepted file reads to it, by each revision. So it has none of its own.
-use Rattle.std.specs.Prelude.{◌≡◌, List, ℕ, ℤ}
-use Rattle.rules.specs.declared.Answer.TheVariants.{Done}
+use Rattle.std.specs.Prelude.{◌≡◌, List, ℕ, ℤ, Ok}
 use Rattle.rules.specs.declared.Revision.{Revision}
 use Rattle.rules.specs.Reading.{read_answer, read_leaves}
 use Rattle.demands.specs.GoodTable.{GoodTable}
@@ -9,7 +8,7 @@ use Rattle.demands.specs.GoodTable.{GoodTable}
 pub record ReadTo (rev : Revision) (t : List ℤ) (n : ℕ) : Type 0 where
   pub file : List ℕ
   pub lent : List ℤ
-  pub answer : read_answer rev file lent ≡ Done n
+  pub answer : read_answer rev file lent ≡ Ok n
   pub table : read_leaves rev file lent ≡ t
 
 pub record GoodExactly : Type 0 where

@@ -5,7 +5,7 @@ use Rattle.runs.specs.Machine.{Row, Entry, holds, bad}
 use Rattle.rules.specs.declared.Command.{Command}
 use Rattle.rules.specs.declared.State.{State}
 use Rattle.rules.specs.declared.Refusal.{Refusal}
-use Rattle.rules.specs.declared.HoleAnswer.TheVariants.{Refused}
+use Rattle.rules.specs.Results.{refused_at}
 use Rattle.rules.specs.Refusals.{no_such_line, bad_table}
 use Rattle.rules.specs.State.{start}
 use Rattle.rules.specs.Rows.{entries_of, Sizes}
@@ -37,7 +37,7 @@ pub data HoleRefused (t : List ℤ) (n k : ℕ) : Refusal → ℕ → Type 0 whe
 
 pub record HoleRefusedExactly : Type 0 where
   pub refused : (t : List ℤ) (n k : ℕ) (e : Refusal) (i : ℕ)
-      → Exactly (hole_answer t n k ≡ Refused e i) (HoleRefused t n k e i)
+      → Exactly (hole_answer t n k ≡ refused_at e i) (HoleRefused t n k e i)
   -- else it is the hole, or that there is none
   pub answered : (t : List ℤ) (n k : ℕ) (p : State) (r : Row Command State)
       → LineOfTable t n k → StateBefore t n k p → found_at t n k ≡ holds r

@@ -1,13 +1,13 @@
 -- Document 02, #104: half circles that come out short. An arc that was possible by document 01's own rule stays possible; and what the
 -- decimals of a radius do, computed on the definitions.
-use Rattle.std.specs.Prelude.{◌≡◌, true, false, ℕ, ◌*◌, ◌≤◌}
+use Rattle.std.specs.Prelude.{◌≡◌, true, false, ℕ, ◌*◌, ◌≤◌, Ok}
 use Rattle.lists.specs.Words.{bytes}
 use Rattle.points.specs.declared.Point.{Point}
 use Rattle.points.specs.declared.Arc.{Arc}
 use Rattle.points.specs.Points.{origin, square_of_distance, last_unit, is_possible}
 use Rattle.rules.specs.declared.Command.TheVariants.{G02}
 use Rattle.rules.specs.declared.Revision.TheVariants.{Rev2021}
-use Rattle.rules.specs.declared.Answer.TheVariants.{Done, Refused}
+use Rattle.rules.specs.Results.{refused_at}
 use Rattle.rules.specs.Refusals.{impossible_arc}
 use Rattle.rules.specs.Commands.{says, line_of}
 use Rattle.rules.specs.Editing.{edit_answer}
@@ -39,9 +39,9 @@ pub record ArcLines : Type 0 where
   pub to_six : is_possible origin (to11 707107 6) ≡ true
   pub one_less_of_six : is_possible origin (to11 707106 6) ≡ false
   -- the bench file's arc from 4, 0: at most 4 and 0.001 apart, by no decimals and by four
-  pub furthest : edit_answer Rev2021 bench_table 15 13 (bytes "G03X8.001Y0A2") bench_counts ≡ Done 15
-  pub too_far : edit_answer Rev2021 bench_table 15 13 (bytes "G03X8.001001Y0A2") bench_counts ≡ Refused impossible_arc 13
-  pub four_decimals : edit_answer Rev2021 bench_table 15 13 (bytes "G03X8.001Y0A2.0000") bench_counts ≡ Refused impossible_arc 13
+  pub furthest : edit_answer Rev2021 bench_table 15 13 (bytes "G03X8.001Y0A2") bench_counts ≡ Ok 15
+  pub too_far : edit_answer Rev2021 bench_table 15 13 (bytes "G03X8.001001Y0A2") bench_counts ≡ refused_at impossible_arc 13
+  pub four_decimals : edit_answer Rev2021 bench_table 15 13 (bytes "G03X8.001Y0A2.0000") bench_counts ≡ refused_at impossible_arc 13
   -- the decimals are read and written as they are; a point without any is not
   pub zeros_read : line_of Rev2021 (bytes "G02X1Y1A2.50") ≡ says (G02 (to11 2500000 2))
   pub zeros_written : spelt (G02 (to11 2500000 2)) ≡ bytes "G02X1Y1A2.50"

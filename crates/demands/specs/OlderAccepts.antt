@@ -1,10 +1,9 @@
 -- Document 02, #102: the two revisions. What 2021 accepts, 2019 accepts as the same: a file as the same table, a new line as the same
 -- edit, of every table. They differ in a declaration with one digit and in nothing else.
-use Rattle.std.specs.Prelude.{◌≡◌, List, ◌++◌, ℕ, ◌≤◌, ℤ, length}
+use Rattle.std.specs.Prelude.{◌≡◌, List, ◌++◌, ℕ, ◌≤◌, ℤ, length, Ok}
 use Rattle.lists.specs.Words.{bytes}
 use Rattle.rules.specs.declared.Revision.TheVariants.{Rev2019, Rev2021}
 use Rattle.rules.specs.declared.Command.TheVariants.{Declare}
-use Rattle.rules.specs.declared.Answer.TheVariants.{Done}
 use Rattle.rules.specs.declared.Counts.{Counts}
 use Rattle.rules.specs.Refusals.{no_such_form, out_of_range}
 use Rattle.rules.specs.Numbers.{max_line, Decimal}
@@ -28,14 +27,14 @@ pub record OneDigitLines : Type 0 where
 
 pub record OlderAccepts : Type 0 where
   pub reading : (bs : List ℕ) (rs : Rows) → ReadingOf Rev2021 bs rs → ReadingOf Rev2019 bs rs
-  pub read : (bs : List ℕ) (t : List ℤ) (n : ℕ) → read_answer Rev2021 bs t ≡ Done n
-      → (read_answer Rev2019 bs t ≡ Done n) × (read_leaves Rev2019 bs t ≡ read_leaves Rev2021 bs t)
+  pub read : (bs : List ℕ) (t : List ℤ) (n : ℕ) → read_answer Rev2021 bs t ≡ Ok n
+      → (read_answer Rev2019 bs t ≡ Ok n) × (read_leaves Rev2019 bs t ≡ read_leaves Rev2021 bs t)
       × (read_counts Rev2019 bs t ≡ read_counts Rev2021 bs t)
-  pub edit : (t : List ℤ) (n k : ℕ) (l : List ℕ) (c : Counts) (m : ℕ) → edit_answer Rev2021 t n k l c ≡ Done m
-      → (edit_answer Rev2019 t n k l c ≡ Done m) × (edit_leaves Rev2019 t n k l c ≡ edit_leaves Rev2021 t n k l c)
+  pub edit : (t : List ℤ) (n k : ℕ) (l : List ℕ) (c : Counts) (m : ℕ) → edit_answer Rev2021 t n k l c ≡ Ok m
+      → (edit_answer Rev2019 t n k l c ≡ Ok m) × (edit_leaves Rev2019 t n k l c ≡ edit_leaves Rev2021 t n k l c)
       × (edit_counts Rev2019 t n k l c ≡ edit_counts Rev2021 t n k l c)
   -- every other line has one answer by both; that one is 5 by 2021, and never 5 by 2019
   pub all_else : (l : List ℕ) → (OneDigit l → ⊥) → line_of Rev2019 l ≡ line_of Rev2021 l
   pub always_5 : (l : List ℕ) → OneDigit l → length l ≤ max_line → Printable l → line_of Rev2021 l ≡ says_no no_such_form
-  pub never_5 : (l : List ℕ) → OneDigit l → (line_of Rev2019 l).refusal.number ≡ 5 → ⊥
+  pub never_5 : (l : List ℕ) → OneDigit l → line_of Rev2019 l ≡ says_no no_such_form → ⊥
   pub lines : OneDigitLines

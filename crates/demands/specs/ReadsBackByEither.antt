@@ -1,8 +1,7 @@
 -- What is written reads back the same by either revision: the writer writes 2021, whatever was read. Which table it is, demand 2 says
 -- for each revision (WriteBack).
-use Rattle.std.specs.Prelude.{◌≡◌, List, ℕ, ℤ, take}
+use Rattle.std.specs.Prelude.{◌≡◌, List, ℕ, ℤ, take, Ok}
 use Rattle.rules.specs.declared.Revision.TheVariants.{Rev2019, Rev2021}
-use Rattle.rules.specs.declared.Answer.TheVariants.{Done}
 use Rattle.rules.specs.Reading.{read_answer, read_leaves}
 use Rattle.rules.specs.Writing.{write_answer, write_leaves}
 
@@ -13,5 +12,5 @@ pub record SameByEither (x : List ℕ) (u : List ℤ) : Type 0 where
 
 pub record ReadsBackByEither : Type 0 where
   -- a table of n rows in numbers t was written as the first m of lent bytes b
-  pub written : (t : List ℤ) (n : ℕ) (b : List ℕ) (m : ℕ) → write_answer t n b ≡ Done m
+  pub written : (t : List ℤ) (n : ℕ) (b : List ℕ) (m : ℕ) → write_answer t n b ≡ Ok m
       → (u : List ℤ) → SameByEither (take m (write_leaves t n b)) u

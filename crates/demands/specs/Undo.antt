@@ -1,12 +1,12 @@
 -- Document 02, #107: a line that was tried is put back, and two changes may come in either order. For a good table, and by one revision
 -- with itself. Both are laws of any machine (runs: Edits).
-use Rattle.std.specs.Prelude.{◌≡◌, List, ℕ, ◌<◌, ℤ}
+use Rattle.std.specs.Prelude.{◌≡◌, List, ℕ, ◌<◌, ℤ, Ok}
 use Rattle.lists.specs.Exactly.{Exactly}
 use Rattle.lists.specs.Words.{bytes}
 use Rattle.rules.specs.declared.Revision.{Revision}
 use Rattle.rules.specs.declared.Revision.TheVariants.{Rev2021}
-use Rattle.rules.specs.declared.Answer.TheVariants.{Done, Refused}
 use Rattle.rules.specs.declared.Counts.{Counts}
+use Rattle.rules.specs.Results.{refused_at}
 use Rattle.rules.specs.Refusals.{not_declared}
 use Rattle.rules.specs.Rows.{Good}
 use Rattle.rules.specs.Reading.{Rows, row_of, read_answer, read_leaves}
@@ -20,7 +20,7 @@ use Rattle.demands.specs.EditedFile.{LineOf}
 -- an accepted edit: line k of a table of n rows in numbers t gets the text l, and the counts c are handed in; it meets at line m, and
 -- leaves the numbers u and the counts d
 pub record EditsTo (rev : Revision) (n : ℕ) (t : List ℤ) (c : Counts) (k : ℕ) (l : List ℕ) (m : ℕ) (u : List ℤ) (d : Counts) : Type 0 where
-  pub answer : edit_answer rev t n k l c ≡ Done m
+  pub answer : edit_answer rev t n k l c ≡ Ok m
   pub table : edit_leaves rev t n k l c ≡ u
   pub counts : edit_counts rev t n k l c ≡ d
 
@@ -39,7 +39,7 @@ pub record Undo : Type 0 where
 -- such texts
 pub record UndoText : Type 0 where
   -- of a table that was read from a file: the file's own line
-  pub own_line : (rev : Revision) (bs : List ℕ) (t : List ℤ) (n : ℕ) (rs : Rows) → read_answer rev bs t ≡ Done n → Good (read_leaves rev bs t) n rs
+  pub own_line : (rev : Revision) (bs : List ℕ) (t : List ℤ) (n : ℕ) (rs : Rows) → read_answer rev bs t ≡ Ok n → Good (read_leaves rev bs t) n rs
       → (k : ℕ) (w : LineOf bs k) → SpellsLine rev w.line (row_of rs k).command
   -- of every good table, by each revision: what the writer writes, and ";" for a comment
   pub written_line : (rev : Revision) (t : List ℤ) (n : ℕ) (rs : Rows) → Good t n rs
@@ -50,10 +50,10 @@ pub record UndoText : Type 0 where
 -- That each step is accepted must be asked for. Of the bench file line 4 declares tool 7 and line 9 selects it: both may become
 -- comments, but not the declaration first.
 pub record OneOrder : Type 0 where
-  pub selection_first : edit_answer Rev2021 bench_table 15 9 (bytes ";") bench_counts ≡ Done 15
+  pub selection_first : edit_answer Rev2021 bench_table 15 9 (bytes ";") bench_counts ≡ Ok 15
   pub then_declaration : edit_answer Rev2021 (edit_leaves Rev2021 bench_table 15 9 (bytes ";") bench_counts) 15 4 (bytes ";")
-      (edit_counts Rev2021 bench_table 15 9 (bytes ";") bench_counts) ≡ Done 15
-  pub declaration_first : edit_answer Rev2021 bench_table 15 4 (bytes ";") bench_counts ≡ Refused not_declared 9
+      (edit_counts Rev2021 bench_table 15 9 (bytes ";") bench_counts) ≡ Ok 15
+  pub declaration_first : edit_answer Rev2021 bench_table 15 4 (bytes ";") bench_counts ≡ refused_at not_declared 9
 
 -- Two different lines, k and j, each step accepted:
 --   t  -- k gets l, meets at m -->   u  -- j gets b, meets at i -->   v

@@ -7,7 +7,7 @@ use Rattle.runs.specs.Machine.{stops}
 use Rattle.rules.specs.declared.Refusal.{Refusal}
 use Rattle.rules.specs.declared.Revision.{Revision}
 use Rattle.rules.specs.declared.Revision.TheVariants.{Rev2021}
-use Rattle.rules.specs.declared.Answer.TheVariants.{Refused}
+use Rattle.rules.specs.Results.{refused_at}
 use Rattle.rules.specs.Refusals.{forbidden_byte, no_such_form, out_of_range}
 use Rattle.rules.specs.Lines.{CR}
 use Rattle.rules.specs.Commands.{says_no, line_of}
@@ -20,7 +20,7 @@ use Rattle.obeys.specs.Faults.{LineRefused}
 pub record ColumnLines : Type 0 where
   -- document 02's own, alone and as an edit of the bench file
   pub own : line_of Rev2021 (bytes "G03X6.0Y1600A1.0") ≡ says_no (out_of_range 9)
-  pub own_edit : edit_answer Rev2021 bench_table 15 13 (bytes "G03X6.0Y1600A1.0") bench_counts ≡ Refused (out_of_range 9) 13
+  pub own_edit : edit_answer Rev2021 bench_table 15 13 (bytes "G03X6.0Y1600A1.0") bench_counts ≡ refused_at (out_of_range 9) 13
   -- the leftmost of those out of range
   pub first : line_of Rev2021 (bytes "G03X1000Y1600A0") ≡ says_no (out_of_range 5)
   pub third : line_of Rev2021 (bytes "G03X6.0Y1.6A1000") ≡ says_no (out_of_range 13)

@@ -1,8 +1,7 @@
 -- Demand 2, writing: a good table is written as a file that obeys by each revision, of short lines, and it reads back by each to the
 -- table's rows without their comments; these, written again, have the same bytes.
-use Rattle.std.specs.Prelude.{◌≡◌, true, List, [], ◌∷◌, ℕ, ◌+◌, ◌*◌, ◌≤◌, ℤ, length, take}
+use Rattle.std.specs.Prelude.{◌≡◌, true, List, [], ◌∷◌, ℕ, ◌+◌, ◌*◌, ◌≤◌, ℤ, length, take, Ok}
 use Rattle.lists.specs.Put.{put_at}
-use Rattle.rules.specs.declared.Answer.TheVariants.{Done}
 use Rattle.rules.specs.declared.Revision.{Revision}
 use Rattle.rules.specs.Lines.{Line, lines_of}
 use Rattle.rules.specs.Rows.{row_width, table_numbers, Good}
@@ -18,13 +17,13 @@ ShortLines (l ∷ ls) = (l.ended ≡ true) × (length l.bytes + 1 ≤ longest_li
 
 -- a table of n rows in numbers t is written as the text x into bytes with room for it
 pub record Writes (t : List ℤ) (n : ℕ) (x b : List ℕ) : Type 0 where
-  pub answer : write_answer t n b ≡ Done (length x)
+  pub answer : write_answer t n b ≡ Ok (length x)
   pub text : write_leaves t n b ≡ put_at b 0 x
   pub found : take (length x) (write_leaves t n b) ≡ x
 
 -- the text of the rows rs, read by a revision into lent numbers u with room for those that are no comments
 pub record ReadsBack (rev : Revision) (rs : Rows) (u : List ℤ) : Type 0 where
-  pub answer : read_answer rev (text_of_rows rs) u ≡ Done (length (without_comments rs))
+  pub answer : read_answer rev (text_of_rows rs) u ≡ Ok (length (without_comments rs))
   pub table : read_leaves rev (text_of_rows rs) u ≡ put_at u 0 (table_numbers (without_comments rs))
   pub good : Good (read_leaves rev (text_of_rows rs) u) (length (without_comments rs)) (without_comments rs)
   pub same_bytes : (b : List ℕ) → length (text_of_rows rs) ≤ length b

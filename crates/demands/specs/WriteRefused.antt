@@ -1,12 +1,12 @@
 -- Writing succeeds exactly for a good table and a block with room for its text; otherwise it is refused: 18 at line 0 for
 -- the sizes, 18 at the first row that fails its test or doesn't follow, 18 at line n if the last phase isn't 4, then 15.
-use Rattle.std.specs.Prelude.{◌≡◌, false, List, ◌∷◌, ◌++◌, ℕ, ◌+◌, ◌<◌, ◌≤◌, ℤ, length}
+use Rattle.std.specs.Prelude.{◌≡◌, false, List, ◌∷◌, ◌++◌, ℕ, ◌+◌, ◌<◌, ◌≤◌, ℤ, length, Ok}
 use Rattle.lists.specs.Exactly.{Exactly}
 use Rattle.runs.specs.Machine.{yields, Entry, holds, bad, all_hold, last_of, Follows, StepBy}
 use Rattle.rules.specs.declared.Command.{Command}
 use Rattle.rules.specs.declared.State.{State}
 use Rattle.rules.specs.declared.Refusal.{Refusal}
-use Rattle.rules.specs.declared.Answer.TheVariants.{Done, Refused}
+use Rattle.rules.specs.Results.{refused_at}
 use Rattle.rules.specs.Refusals.{bad_table, no_room}
 use Rattle.rules.specs.State.{start, taken, has_ended}
 use Rattle.rules.specs.Rows.{entries_of, Sizes, Good}
@@ -40,11 +40,11 @@ pub record IsWritten (t : List ℤ) (n : ℕ) (b : List ℕ) (m : ℕ) : Type 0 
   pub room : m ≤ length b
 
 pub record WritesExactly (t : List ℤ) (n : ℕ) (b : List ℕ) : Type 0 where
-  pub done : (m : ℕ) → Exactly (write_answer t n b ≡ Done m) (IsWritten t n b m)
-  pub refused : (e : Refusal) (i : ℕ) → Exactly (write_answer t n b ≡ Refused e i) (WriteRefused t n b e i)
+  pub done : (m : ℕ) → Exactly (write_answer t n b ≡ Ok m) (IsWritten t n b m)
+  pub refused : (e : Refusal) (i : ℕ) → Exactly (write_answer t n b ≡ refused_at e i) (WriteRefused t n b e i)
   -- 18 exactly where the table isn't good
-  pub not_good : ((rs : Rows) → Good t n rs → ⊥) → (i : ℕ) × (write_answer t n b ≡ Refused bad_table i)
-  pub not_bad : (rs : Rows) → Good t n rs → (i : ℕ) → write_answer t n b ≡ Refused bad_table i → ⊥
+  pub not_good : ((rs : Rows) → Good t n rs → ⊥) → (i : ℕ) × (write_answer t n b ≡ refused_at bad_table i)
+  pub not_bad : (rs : Rows) → Good t n rs → (i : ℕ) → write_answer t n b ≡ refused_at bad_table i → ⊥
 
 pub record WriteExactly : Type 0 where
   pub writes : (t : List ℤ) (n : ℕ) (b : List ℕ) → WritesExactly t n b

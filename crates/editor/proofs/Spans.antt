@@ -8,6 +8,9 @@ use borrow.Author.Tests.{lt-ltb, le-ltb, ltb-false}
 use lib.Dec.{ltb}
 use lib.IntN.{ℤ}
 use lib.ListN.{length, drop, length-drop, drop_of_length-le}
+use Rattle.rules.proofs.Said.{refused_same}
+use Rattle.rules.specs.Results.{Answer, Looked}
+use Rattle.std.specs.Prelude.{Some, None, Ok, Err}
 use Rattle.lists.specs.Put.{put_at}
 use Rattle.lists.proofs.Put.{put_none}
 use Rattle.lists.proofs.Choice.{cond_all}
@@ -15,25 +18,22 @@ use Rattle.runs.specs.Machine.{Row, Out, yields, stops, on_out, Verdict, accepte
 use Rattle.runs.proofs.Meeting.{rerun_counted}
 use Rattle.rules.specs.declared.Command.{Command}
 use Rattle.rules.specs.declared.State.{State}
+use Rattle.rules.specs.declared.Row as R
 use Rattle.rules.specs.declared.Refusal.{Refusal}
-use Rattle.rules.specs.declared.Next.TheVariants.{To, No}
-use Rattle.rules.specs.declared.Looked.{Looked}
-use Rattle.rules.specs.declared.Looked.TheVariants.{Holds, Bad}
-use Rattle.rules.specs.declared.Answer.{Answer}
-use Rattle.rules.specs.declared.Answer.TheVariants.{Done, Refused}
+use Rattle.rules.specs.declared.Refused.{Refused}
 use Rattle.rules.specs.Refusals.{ends_too_soon, bad_table}
 use Rattle.rules.specs.State.{step, taken, has_ended, same_state}
 use Rattle.rules.specs.Rows.{row_width, table_numbers, entry_of, entries_of}
 use Rattle.rules.specs.Reading.{Rows}
 use Rattle.rules.specs.Ranges.{StateOk, CommandOk}
-use Rattle.rules.specs.Editing.{rerun_from, meeting_of}
+use Rattle.rules.specs.Editing.{rerun_from, edit_from, meeting_of}
 use Rattle.laws.proofs.Keeps.{keeps}
 use Rattle.laws.proofs.Entries.{entries_length, table_one}
 use Rattle.table.specs.Table.{look_at}
 use Rattle.table.proofs.Looks.{Found, look_found, entries_cons}
 use Rattle.put.specs.PutRow.{put_row}
-use Rattle.put.proofs.Puts.{put_size, put_rest, put_row_lem, put_next}
-use Rattle.editor.specs.Parts.{Entries, rows_to_meet, new_rows, edited_to, LineFound, Met}
+use Rattle.put.proofs.Puts.{put_rest, put_row_lem, put_next}
+use Rattle.editor.specs.Parts.{Entries, rows_to_meet, span_written, new_rows, edited_to, LineFound, Met}
 
 pub widen_meeting : (r : Row Command State) (v : Verdict (Span Command State) Refusal) → meeting_of (widen r v) ≡ meeting_of v
 widen_meeting r (accepted s) = refl
@@ -41,6 +41,8 @@ widen_meeting r (refused e i) = refl
 
 pub no_rows : (t : List ℤ) (n i : ℕ) → n ≤ i → drop i (entries_of n t) ≡ []
 no_rows t n i h = drop_of_length-le (entries_of n t) {i = i} (omega (arith, entries_length n t))
+
+pub ruleset meeting_rules = (entries_cons, no_rows, widen_meeting)
 
 -- ---- an accepted rerun's rows are those that stand up to the meeting line
 
@@ -79,64 +81,63 @@ rows_are p es i s e = subst (Has (rows_to_meet p es)) e (has_rows p es i)
 
 -- ---- the walk that writes
 
--- rows up to i are written; t₀ was there before, and w is to be there at the end
-pub record Writing (t₀ w t : List ℤ) (n i : ℕ) (p : State) : Type 0 where
-  pub upto : i ≤ n
-  pub same_size : length t ≡ length t₀
-  pub ok : StateOk p
-  pub rest : put_at t (row_width * i) (table_numbers (rows_to_meet p (drop i (entries_of n t)))) ≡ w
+-- the state after a row that stands is in range
+pub next_ok : (t : List ℤ) (i : ℕ) (r : R.Row) (p q : State) → StateOk p → look_at t i ≡ Some r → step p r.command ≡ Ok q → StateOk q
+next_ok t i r p q ok e f = keeps p q r.command ok (look_found t i r.command r.state e).command_ok f
 
-module _ (t₀ w t : List ℤ) (n i : ℕ) (p : State) (room : row_width * n ≤ length t₀) (z : Writing t₀ w t n i p) where
-  room_now : row_width * n ≤ length t
-  room_now = rw z.same_size room
+module _ (t : List ℤ) (n i : ℕ) (p : State) where
+  pub span_over : n ≤ i → span_written t n i p ≡ t
+  unfolding span_written table_numbers rows_to_meet
+  span_over h = rw (no_rows t n i h) (put_none t (row_width * i))
 
-  pub write_over : n ≤ i → t ≡ w
-  unfolding table_numbers rows_to_meet
-  write_over h = sym (put_none t (row_width * i)) ∙ rw (no_rows t n i h) at z.rest
-
-  module _ (h : i < n) where
+  module _ (room : row_width * n ≤ length t) (h : i < n) where
     -- what is left to write where row i looks so
-    looks : (x : Looked) → look_at t i ≡ x → put_at t (row_width * i) (table_numbers (rows_to_meet p (entry_of x ∷ drop (i + 1) (entries_of n t)))) ≡ w
-    looks x e = rw (entries_cons n t i h room_now, e) at z.rest
+    looks : (x : Looked) → look_at t i ≡ x → span_written t n i p ≡ put_at t (row_width * i) (table_numbers (rows_to_meet p (entry_of x ∷ drop (i + 1) (entries_of n t))))
+    unfolding span_written
+    looks x e = rw (entries_cons n t i h room, e)
 
-    pub write_bad : look_at t i ≡ Bad → t ≡ w
+    pub span_bad : look_at t i ≡ None → span_written t n i p ≡ t
     unfolding table_numbers rows_to_meet
-    write_bad e = sym (put_none t (row_width * i)) ∙ looks Bad e
+    span_bad e = looks None e ∙ put_none t (row_width * i)
 
-    module _ (c : Command) (s : State) (e : look_at t i ≡ Holds c s) where
-      pub write_refused : (r : Refusal) → step p c ≡ No r → t ≡ w
+    module _ (r : R.Row) (e : look_at t i ≡ Some r) where
+      pub span_refused : (f : Refusal) → step p r.command ≡ Err f → span_written t n i p ≡ t
       unfolding table_numbers rows_to_meet
-      write_refused r f = sym (put_none t (row_width * i)) ∙ rw f at (looks (Holds c s) e)
+      span_refused f g = looks (Some r) e ∙ rw g (put_none t (row_width * i))
 
-      module _ (q : State) (f : step p c ≡ To q) where
-        found : Found t i c s
-        found = look_found t i c s e
+      module _ (q : State) (f : step p r.command ≡ Ok q) (ok : StateOk p) where
+        found : Found t i r.command r.state
+        found = look_found t i r.command r.state e
 
-        next_ok : StateOk q
-        next_ok = keeps p q c z.ok found.command_ok f
+        q_ok : StateOk q
+        q_ok = next_ok t i r p q ok e f
 
-        pub write_met : same_state q s ≡ true → put_row t i c q ≡ w
+        pub span_met : same_state q r.state ≡ true → span_written t n i p ≡ put_row t i r.command q
         unfolding rows_to_meet
-        write_met y =
-            put_row_lem t i c q found.command_ok next_ok found.inside
-            ∙ ap (put_at t (row_width * i)) (sym (table_one (record { command = c; state = q }))) ∙ rw (f, y) at (looks (Holds c s) e)
+        span_met y =
+            looks (Some r) e ∙ rw (f, y, table_one (record { command = r.command; state = q }))
+            (sym (put_row_lem t i r.command q found.command_ok q_ok found.inside))
 
-        pub write_on : same_state q s ≡ false → Writing t₀ w (put_row t i c q) n (i + 1) q
-        unfolding rows_to_meet
-        write_on y = record {
-          upto = omega arith;
-          same_size = put_size t i c q ∙ z.same_size;
-          ok = next_ok;
-          rest =
-              rw (put_rest t i c q n h room_now)
-              (put_next t i c q found.command_ok next_ok found.inside (rows_to_meet q (drop (i + 1) (entries_of n t))) ∙ rw (f, y) at (looks (Holds c s) e));
-        }
+        pub span_on : same_state q r.state ≡ false → span_written (put_row t i r.command q) n (i + 1) q ≡ span_written t n i p
+        unfolding span_written rows_to_meet
+        span_on y =
+            rw (put_rest t i r.command q n h room)
+            (put_next t i r.command q found.command_ok q_ok found.inside (rows_to_meet q (drop (i + 1) (entries_of n t)))
+            ∙ sym (looks (Some r) e ∙ rw (f, y)))
+
+pub ruleset span_rules = (span_over, span_bad, span_refused, span_met, span_on)
 
 -- ---- the edited row, and the rows after it
 
 no_length : (rs : Rows) → length rs ≤ 0 → rs ≡ []
 no_length [] h = refl
 no_length (r ∷ rs) h = absurd (omega arith)
+
+-- the new command is taken first; what it leaves is the edited row
+pub taken_first : (es : Entries) (k : ℕ) (p o : State) (c : Command) → 1 ≤ k
+    → edit_from es k p o c ≡ on_out (taken p c) (λ e. refused e k) (λ q. edited_to es k c q o)
+unfolding edit_from rerun
+taken_first es k p o c h = let a : k - 1 + 1 ≡ k = omega arith in rw a
 
 module _ (t : List ℤ) (n k : ℕ) (o : State) (found : LineFound t n k) where
   module _ (c : Command) (q : State) (cok : CommandOk c) (qok : StateOk q) where
@@ -149,23 +150,21 @@ module _ (t : List ℤ) (n k : ℕ) (o : State) (found : LineFound t n k) where
           meets = refl;
           rows = rw (le-ltb k k (omega arith));
           counted = omega (arith, found.from);
+          found = found;
           later = omega arith;
           upto = found.upto;
-          from = found.from;
-          few = found.few;
-          room = found.room;
           command_ok = cok;
           state_ok = qok;
         }
 
     -- a is what the walk over the rows after it told
     module _ (y : same_state q o ≡ false) {a : Answer} (ae : a ≡ meeting_of (rerun_from q (drop k (entries_of n t)) k)) where
-      pub asked_refused : (e : Refusal) (i : ℕ) → a ≡ Refused e i → edited_to (entries_of n t) k c q o ≡ refused e i
-      asked_refused e i h = rw y (by (rerun_from q (drop k (entries_of n t)) k) (sym h ∙ ae))
+      pub asked_refused : (r : Refused) → a ≡ Err r → edited_to (entries_of n t) k c q o ≡ refused r.refusal r.line
+      asked_refused r h = rw y (by (rerun_from q (drop k (entries_of n t)) k) (sym h ∙ ae))
         where
-          by : (v : Verdict (Span Command State) Refusal) → Refused e i ≡ meeting_of v → widen (record { command = c; state = q }) v ≡ refused e i
+          by : (v : Verdict (Span Command State) Refusal) → Err r ≡ meeting_of v → widen (record { command = c; state = q }) v ≡ refused r.refusal r.line
           by (accepted x) g = absurd (let z : ◌≡◌ {A = ℕ} 0 1 = cc in omega arith)
-          by (refused f j) g = cc
+          by (refused e i) g = let same = refused_same g in rw (same.0, same.1)
 
       -- the rows after it, up to the meeting line
       rows_after : (x : Span Command State) → rerun_from q (drop k (entries_of n t)) k ≡ accepted x → (m : ℕ) → x.meeting ≡ m
@@ -175,10 +174,10 @@ module _ (t : List ℤ) (n k : ℕ) (o : State) (found : LineFound t n k) where
           (λ h. no_length x.rows
           (omega (arith, g, ltb-false k m h, (rerun_counted taken same_state has_ended bad_table ends_too_soon q (drop k (entries_of n t)) k x ev).0)))
 
-      pub asked_on : (m : ℕ) → a ≡ Done m → Met t n k (edited_to (entries_of n t) k c q o) m c q
+      pub asked_on : (m : ℕ) → a ≡ Ok m → Met t n k (edited_to (entries_of n t) k c q o) m c q
       asked_on m h = by (rerun_from q (drop k (entries_of n t)) k) refl (sym h ∙ ae)
         where
-          by : (v : Verdict (Span Command State) Refusal) → rerun_from q (drop k (entries_of n t)) k ≡ v → Done m ≡ meeting_of v
+          by : (v : Verdict (Span Command State) Refusal) → rerun_from q (drop k (entries_of n t)) k ≡ v → Ok m ≡ meeting_of v
               → Met t n k (edited_to (entries_of n t) k c q o) m c q
           by (refused f j) ev g = absurd (let z : ◌≡◌ {A = ℕ} 0 1 = cc in omega arith)
           by (accepted x) ev g =
@@ -191,27 +190,28 @@ module _ (t : List ℤ) (n k : ℕ) (o : State) (found : LineFound t n k) where
                 meets = d;
                 rows = ap (◌∷◌ (record { command = c; state = q })) (rows_after x ev m d);
                 counted = omega (arith, d, w.0, found.from);
+                found = found;
                 later = omega (arith, d, w.0);
                 upto = omega (arith, d, w.0, w.1, length-drop k (entries_of n t), entries_length n t, found.upto);
-                from = found.from;
-                few = found.few;
-                room = found.room;
                 command_ok = cok;
                 state_ok = qok;
               }
 
+pub ruleset asked_rules = (asked_met, asked_refused, asked_on)
+
 -- ---- what is written: the edited row, and then the rows after it up to the meeting line
 
-module _ (t : List ℤ) (n k m : ℕ) (c : Command) (q : State) (room : row_width * n ≤ length t) (low : 1 ≤ k) (high : k ≤ n) (cok : CommandOk c) (qok : StateOk q) where
-  pub change_one : m ≤ k → {t₁ : List ℤ} → t₁ ≡ put_row t (k - 1) c q
-      → t₁ ≡ put_at t (row_width * (k - 1)) (table_numbers (new_rows (entries_of n t) k m c q))
-  change_one h e =
-      rw (le-ltb k m h) (e ∙ put_row_lem t (k - 1) c q cok qok (omega arith) ∙ ap (put_at t (row_width * (k - 1))) (sym (table_one (record { command = c; state = q }))))
+module _ (t : List ℤ) (n k m : ℕ) (c : Command) (q : State) (found : LineFound t n k) (cok : CommandOk c) (qok : StateOk q) where
+  pub written_one : m ≤ k → put_at t (row_width * (k - 1)) (table_numbers (new_rows (entries_of n t) k m c q)) ≡ put_row t (k - 1) c q
+  written_one h =
+      rw (le-ltb k m h)
+      (sym (put_row_lem t (k - 1) c q cok qok (omega (arith, found.from, found.upto, found.room)) ∙ ap (put_at t (row_width * (k - 1))) (sym (table_one (record { command = c; state = q })))))
 
-  pub change_on : k < m → {t₁ t' : List ℤ} → t₁ ≡ put_row t (k - 1) c q
-      → t' ≡ put_at t₁ (row_width * k) (table_numbers (rows_to_meet q (drop k (entries_of n t₁))))
-      → t' ≡ put_at t (row_width * (k - 1)) (table_numbers (new_rows (entries_of n t) k m c q))
-  change_on h e₁ e =
-      let l : k - 1 + 1 ≡ k = omega arith in
-      let stay : drop k (entries_of n (put_row t (k - 1) c q)) ≡ drop k (entries_of n t) = rw l at (put_rest t (k - 1) c q n (omega arith) room) in
-      rw (lt-ltb k m h) (e ∙ rw (e₁, stay) (rw l at (put_next t (k - 1) c q cok qok (omega arith) (rows_to_meet q (drop k (entries_of n t))))))
+  pub written_on : k < m → put_at t (row_width * (k - 1)) (table_numbers (new_rows (entries_of n t) k m c q)) ≡ span_written (put_row t (k - 1) c q) n k q
+  unfolding span_written
+  written_on h =
+      let l : k - 1 + 1 ≡ k = omega (arith, found.from) in
+      let stay : drop k (entries_of n (put_row t (k - 1) c q)) ≡ drop k (entries_of n t) = rw l at (put_rest t (k - 1) c q n (omega (arith, found.from, found.upto)) found.room) in
+      rw (lt-ltb k m h, stay) (sym (rw l at (put_next t (k - 1) c q cok qok (omega (arith, found.from, found.upto, found.room)) (rows_to_meet q (drop k (entries_of n t))))))
+
+pub ruleset write_rules = (written_one, written_on)

@@ -1,5 +1,6 @@
 -- For contracts of private functions alone: the rows that an edit writes, and what is told of a verdict.
-use Rattle.std.specs.Prelude.{◌≡◌, cond, List, [], ◌∷◌, ℕ, ◌+◌, ◌-◌, ◌*◌, ◌≤◌, ltb, ℤ, length, drop}
+use Rattle.std.specs.Prelude.{Result, Ok, Err, ◌≡◌, cond, List, [], ◌∷◌, ℕ, ◌+◌, ◌-◌, ◌*◌, ◌≤◌, ltb, ℤ, length, drop}
+use Rattle.lists.specs.Put.{put_at}
 use Rattle.runs.specs.Machine.{on_out, Verdict, accepted, refused, Entry, holds, bad, Span, widen}
 use Rattle.rules.specs.declared.Command.{Command}
 use Rattle.rules.specs.declared.State.{State}
@@ -7,11 +8,13 @@ use Rattle.rules.specs.declared.Refusal.{Refusal}
 use Rattle.rules.specs.Numbers.{max_lines}
 use Rattle.rules.specs.State.{taken, same_state}
 use Rattle.rules.specs.Reading.{Rows}
-use Rattle.rules.specs.Rows.{row_width, entries_of}
+use Rattle.rules.specs.Rows.{row_width, entries_of, table_numbers}
 use Rattle.rules.specs.Ranges.{CommandOk, StateOk}
 use Rattle.rules.specs.Editing.{rerun_from}
-use Rattle.editor.specs.declared.Asked.{Asked}
-use Rattle.editor.specs.declared.Asked.TheVariants.{Meets, Refused}
+use Rattle.rules.specs.declared.Refused.{Refused}
+use Rattle.rules.specs.declared.Counts.{Counts}
+use Rattle.rules.specs.declared.Counted.{Counted}
+use Rattle.editor.specs.declared.Change.{Change}
 
 abbrev pub Entries : Type 0
 Entries = List (Entry Command State)
@@ -23,6 +26,10 @@ rows_to_meet p (bad ∷ es) = []
 rows_to_meet p (holds r ∷ es) =
     on_out (taken p r.command) (λ e. [])
     (λ q. record { command = r.command; state = q } ∷ cond (same_state q r.state) [] (rows_to_meet q es))
+
+-- the rows after i others, of a table of n, written from state p on up to the meeting line
+unfoldable pub span_written : List ℤ → ℕ → ℕ → State → List ℤ
+span_written t n i p = put_at t (row_width * i) (table_numbers (rows_to_meet p (drop i (entries_of n t))))
 
 -- line k takes the command c, which leaves the state q, in the place of one that left o
 abbrev pub edited_to : Entries → ℕ → Command → State → State → Verdict (Span Command State) Refusal
@@ -48,15 +55,17 @@ pub record Met (t : List ℤ) (n k : ℕ) (v : Verdict (Span Command State) Refu
   pub meets : span.meeting ≡ m
   pub rows : span.rows ≡ new_rows (entries_of n t) k m c q
   pub counted : m ≡ k - 1 + length span.rows
+  pub found : LineFound t n k
   pub later : k ≤ m
   pub upto : m ≤ n
-  pub from : 1 ≤ k
-  pub few : n ≤ max_lines
-  pub room : row_width * n ≤ length t
   pub command_ok : CommandOk c
   pub state_ok : StateOk q
 
 -- what is told of a verdict on an edit of line k
-abbrev pub Asks : List ℤ → ℕ → ℕ → Verdict (Span Command State) Refusal → Asked → Type 0
-Asks t n k v (Meets m c q) = Met t n k v m c q
-Asks t n k v (Refused e i) = v ≡ refused e i
+abbrev pub Asks : List ℤ → ℕ → ℕ → Verdict (Span Command State) Refusal → Result Change Refused → Type 0
+Asks t n k v (Ok c) = Met t n k v c.meeting c.row.command c.row.state
+Asks t n k v (Err r) = v ≡ refused r.refusal r.line
+
+-- a refused edit: the counts are as they were handed in
+abbrev pub not_edited : Refused → Counts → Counted
+not_edited r c = record { answer = Err r; counts = c }

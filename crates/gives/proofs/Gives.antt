@@ -5,21 +5,20 @@ use Prim.Native.Nat.{ℕ}
 use denote.Enum.Declared.{tag_of}
 use types.Run.{OneOf, miss}
 use borrow.Author.Tests.{eq-eqb, ne_eqb}
+use Rattle.std.specs.Prelude.{Some, None, Ok}
 use Rattle.points.specs.declared.Point.{Point}
 use Rattle.rules.specs.declared.Command.{Command}
 use Rattle.rules.specs.contracts.Command.{the_type}
 use Rattle.rules.specs.declared.Command.TheVariants.{Comment, M48, Metric, Inch, Declare, Percent, G05, G00, Select, Hit, M15, M16, G01, G02, G03, M30}
 use Rattle.rules.specs.declared.State.{State}
-use Rattle.rules.specs.declared.HoleAnswer.TheVariants.{Nothing}
 use Rattle.rules.specs.Holes.{hole_of}
-use Rattle.rules.specs.declared.Declared.TheVariants.{Diameter, Other}
 use Rattle.rules.specs.Asking.{declared_by}
 
 -- the kinds that make none, in the order of the commands
 abbrev silent : List ℕ
 silent = 0 ∷ 1 ∷ 2 ∷ 3 ∷ 4 ∷ 5 ∷ 6 ∷ 7 ∷ 8 ∷ 10 ∷ 11 ∷ 15 ∷ []
 
-pub no_hole : (from : Point) (c : Command) (s : State) → OneOf silent (tag_of the_type c) → Nothing ≡ hole_of from c s
+pub no_hole : (from : Point) (c : Command) (s : State) → OneOf silent (tag_of the_type c) → Ok None ≡ hole_of from c s
 unfolding hole_of
 no_hole from Comment s h = refl
 no_hole from M48 s h = refl
@@ -43,7 +42,7 @@ no_hole from M30 s h = refl
 abbrev others : List ℕ
 others = 0 ∷ 1 ∷ 2 ∷ 3 ∷ 5 ∷ 6 ∷ 7 ∷ 8 ∷ 9 ∷ 10 ∷ 11 ∷ 12 ∷ 13 ∷ 14 ∷ 15 ∷ []
 
-pub declared_other : (c : Command) (t : ℕ) → OneOf others (tag_of the_type c) → Other ≡ declared_by t c
+pub declared_other : (c : Command) (t : ℕ) → OneOf others (tag_of the_type c) → None ≡ declared_by t c
 unfolding declared_by
 declared_other Comment t h = refl
 declared_other M48 t h = refl
@@ -63,10 +62,10 @@ declared_other (G03 a) t h = refl
 declared_other M30 t h = refl
 
 module _ (c : Command) (u d t : ℕ) (e : c ≡ Declare u d) where
-  pub declared_this : u ≡ t → Diameter d ≡ declared_by t c
+  pub declared_this : u ≡ t → Some d ≡ declared_by t c
   unfolding declared_by
   declared_this h = rw (e, eq-eqb u t h)
 
-  pub declared_not : (u ≡ t → ⊥) → Other ≡ declared_by t c
+  pub declared_not : (u ≡ t → ⊥) → None ≡ declared_by t c
   unfolding declared_by
   declared_not h = rw (e, ne_eqb u t h)

@@ -7,22 +7,29 @@ ghost use Rattle.rules.specs.Asking as Asking;
 ghost use Rattle.rules.specs.Holes as Holes;
 
 use points::Point;
-use rules::{Command, Declared, Hole, HoleAnswer, State, kind};
+use rules::{Command, Hole, Refused, State, kind};
 
-fn made(kind: u32, tool: u32, start: Point, end: Point, radius: u32) -> HoleAnswer
+fn made(
+    kind: u32,
+    tool: u32,
+    start: Point,
+    end: Point,
+    radius: u32,
+) -> Result<Option<Hole>, Refused>
     ensures { result ≡ Holes.made kind tool start end radius }
 {
-    HoleAnswer::Makes(Hole {
-        kind: kind,
-        tool: tool,
-        start: start,
-        end: end,
-        radius: radius,
-    })
+    Ok(Some(Hole {
+        kind,
+        tool,
+        start,
+        end,
+        radius,
+    }))
 }
 
 /// The hole that a command makes, given the point before it and the state after it.
-pub fn hole(command: Command, from: Point, state: State) -> HoleAnswer
+#[tactic(auto, unfolding(rules::specs::Holes::hole_of))]
+pub fn hole(command: Command, from: Point, state: State) -> Result<Option<Hole>, Refused>
     ensures { hole_said result ≡ hole_said (Holes.hole_of from command state) }
 {
     let tool = state.tool;
@@ -31,19 +38,19 @@ pub fn hole(command: Command, from: Point, state: State) -> HoleAnswer
         Command::G01(p) => made(kind::G01, tool, from, p, 0),
         Command::G02(a) => made(kind::G02, tool, from, a.to, a.radius),
         Command::G03(a) => made(kind::G03, tool, from, a.to, a.radius),
-        _ => HoleAnswer::Nothing,
+        _ => Ok(None),
     }
 }
 
 /// The diameter that a command declares for a tool, if it does.
 #[tactic(auto, using(crate::proofs::Gives::declared_this))]
-pub fn diameter(command: Command, tool: u32) -> Declared
+pub fn diameter(command: Command, tool: u32) -> Option<u32>
     ensures { result ≡ Asking.declared_by tool command }
 {
     if let Command::Declare(t, d) = command {
         if t == tool {
-            return Declared::Diameter(d);
+            return Some(d);
         }
     }
-    Declared::Other
+    None
 }

@@ -7,15 +7,13 @@ use Prim.Native.Nat.{ℕ, ◌+◌, ◌≤◌}
 use native.Mathlib.Omega.{arith}
 use borrow.Author.Tests.{eq-eqb, eqb-true}
 use lib.Dec.{eqb}
+use Rattle.std.specs.Prelude.{Option, Some, None, Ok}
 use Rattle.runs.specs.Machine.{yields, all_hold, last_of, Follows, StepBy}
 use Rattle.runs.proofs.Chains.{follows_head, follows_tail}
 use Rattle.rules.specs.declared.State.{State}
 use Rattle.rules.specs.declared.Command.{Command}
 use Rattle.rules.specs.declared.Command.TheVariants.{Comment, M48, Metric, Inch, Declare, Percent, G05, G00, Select, Hit, M15, M16, G01, G02, G03, M30}
-use Rattle.rules.specs.declared.Declared.{Declared}
-use Rattle.rules.specs.declared.Declared.TheVariants.{Diameter, Other}
-use Rattle.rules.specs.declared.Next.TheVariants.{To}
-use Rattle.rules.specs.declared.DiameterAnswer.TheVariants as D
+use Rattle.rules.specs.Results.{refused_at}
 use Rattle.rules.specs.Refusals.{not_declared}
 use Rattle.rules.specs.Numbers.{max_tool}
 use Rattle.tools.specs.declared.Tools.{Tools}
@@ -31,11 +29,11 @@ use Rattle.laws.proofs.InRange.{RowsOk}
 -- ---- what a command declares
 
 module _ (u : ℕ) where
-  cond_is : {t d m : ℕ} (b : Bool) → eqb t u ≡ b → cond b (Diameter d) Other ≡ Diameter m → Declare t d ≡ Declare u m
+  cond_is : {t d m : ℕ} (b : Bool) → eqb t u ≡ b → cond b (Some d) None ≡ Some m → Declare t d ≡ Declare u m
   cond_is {t} {d} {m} true e f = let z : d ≡ m = cc in rw (eqb-true t u e, z)
   cond_is false e f = absurd (let z : ◌≡◌ {A = ℕ} 0 1 = cc in omega arith)
 
-  pub declared_is : (c : Command) (m : ℕ) → declared_by u c ≡ Diameter m → c ≡ Declare u m
+  pub declared_is : (c : Command) (m : ℕ) → declared_by u c ≡ Some m → c ≡ Declare u m
   unfolding declared_by
   declared_is Comment m e = absurd (let z : ◌≡◌ {A = ℕ} 0 1 = cc in omega arith)
   declared_is M48 m e = absurd (let z : ◌≡◌ {A = ℕ} 0 1 = cc in omega arith)
@@ -54,16 +52,16 @@ module _ (u : ℕ) where
   declared_is (G03 a) m e = absurd (let z : ◌≡◌ {A = ℕ} 0 1 = cc in omega arith)
   declared_is M30 m e = absurd (let z : ◌≡◌ {A = ℕ} 0 1 = cc in omega arith)
 
-  pub declares : (d : ℕ) → declared_by u (Declare u d) ≡ Diameter d
+  pub declares : (d : ℕ) → declared_by u (Declare u d) ≡ Some d
   unfolding declared_by
   declares d = rw (eq-eqb u u refl)
 
-  pub declares_none : (c : Command) → ((d : ℕ) → c ≡ Declare u d → ⊥) → declared_by u c ≡ Other
+  pub declares_none : (c : Command) → ((d : ℕ) → c ≡ Declare u d → ⊥) → declared_by u c ≡ None
   declares_none c n = by (declared_by u c) refl
     where
-      by : (x : Declared) → declared_by u c ≡ x → x ≡ Other
-      by Other e = refl
-      by (Diameter m) e = absurd (n m (declared_is c m e))
+      by : (x : Option ℕ) → declared_by u c ≡ x → x ≡ None
+      by None e = refl
+      by (Some m) e = absurd (n m (declared_is c m e))
 
 -- ---- what is declared stays so
 
@@ -105,19 +103,19 @@ module _ (u : ℕ) (low : u ≤ max_tool) where
   unfolding step Has
   adds s q c d w e =
       taken_after Has s q (Declare u d)
-      (after_need Has _ _ _ (after_need Has _ _ (To (with_tools (insert s.tools u) s)) (rw (has_insert s.tools u u (omega arith), eq-eqb u u refl))))
+      (after_need Has _ _ _ (after_need Has _ _ (Ok (with_tools (insert s.tools u) s)) (rw (has_insert s.tools u u (omega arith), eq-eqb u u refl))))
       (rw w at e)
 
   -- a tool that isn't declared after the last row is found in none
   pub undeclared : (rs : Rows) (p : State) (i : ℕ) → Follows (StepBy taken) p i rs → RowsOk rs → has (last_of p rs).tools u ≡ false
-      → diameter_in u (all_hold rs) i ≡ D.Refused not_declared 0
+      → diameter_in u (all_hold rs) i ≡ refused_at not_declared 0
   unfolding last_of all_hold diameter_in
   undeclared [] p i f ok h = refl
   undeclared (r ∷ rs) p i f ok h = by (declared_by u r.command) refl (undeclared rs r.state (i + 1) (follows_tail f) ok.2 h)
     where
-      by : (x : Declared) → declared_by u r.command ≡ x → diameter_in u (all_hold rs) (i + 1) ≡ D.Refused not_declared 0
-          → on_declared x (diameter_in u (all_hold rs) (i + 1)) ≡ D.Refused not_declared 0
-      by Other e ih = ih
-      by (Diameter m) e ih =
+      by : (x : Option ℕ) → declared_by u r.command ≡ x → diameter_in u (all_hold rs) (i + 1) ≡ refused_at not_declared 0
+          → on_declared x (diameter_in u (all_hold rs) (i + 1)) ≡ refused_at not_declared 0
+      by None e ih = ih
+      by (Some m) e ih =
           let here = adds p r.state r.command m (declared_is u r.command m e) (follows_head f) in
           absurd (false≢true (sym h ∙ declared_stays rs r.state (i + 1) (follows_tail f) ok.2 here))

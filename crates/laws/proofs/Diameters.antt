@@ -5,13 +5,11 @@ use mathlib.Core.List.{List, [], ◌∷◌, ◌++◌}
 use Prim.Native.Nat.{ℕ, suc, ◌+◌, ◌<◌}
 use native.Mathlib.Omega.{arith}
 use lib.ListN.{length, get_or}
+use Rattle.std.specs.Prelude.{Option, Some, None, Ok}
 use Rattle.runs.specs.Machine.{all_hold, commands_of}
 use Rattle.rules.specs.declared.Command.{Command}
 use Rattle.rules.specs.declared.Command.TheVariants.{Declare}
-use Rattle.rules.specs.declared.Declared.{Declared}
-use Rattle.rules.specs.declared.Declared.TheVariants.{Diameter, Other}
-use Rattle.rules.specs.declared.DiameterAnswer.{DiameterAnswer}
-use Rattle.rules.specs.declared.DiameterAnswer.TheVariants.{Is, Refused}
+use Rattle.rules.specs.Results.{DiameterAnswer, refused_at}
 use Rattle.rules.specs.Refusals.{not_declared}
 use Rattle.rules.specs.Reading.{Rows, no_row}
 use Rattle.rules.specs.Asking.{declared_by, on_declared, diameter_in}
@@ -19,12 +17,12 @@ use Rattle.laws.proofs.Declared.{declared_is, declares_none}
 
 module _ (u : ℕ) where
   unfoldable pub diameter_by : List Command → DiameterAnswer
-  diameter_by [] = Refused not_declared 0
+  diameter_by [] = refused_at not_declared 0
   diameter_by (c ∷ cs) = on_declared (declared_by u c) (diameter_by cs)
 
   -- some row of these declares the tool
   abbrev pub HasDiameter : Rows → Type 0
-  HasDiameter rs = (d : ℕ) × (diameter_by (commands_of rs) ≡ Is d)
+  HasDiameter rs = (d : ℕ) × (diameter_by (commands_of rs) ≡ Ok d)
 
   pub diameter_rows : (rs : Rows) (i : ℕ) → diameter_in u (all_hold rs) i ≡ diameter_by (commands_of rs)
   unfolding diameter_in all_hold commands_of diameter_by
@@ -37,13 +35,13 @@ module _ (u : ℕ) where
   passed_over (b ∷ bs) cs c n = ap (on_declared (declared_by u b)) (passed_over bs cs c n)
 
   -- what is found is declared by a row
-  pub found_row : (rs : Rows) (d : ℕ) → diameter_by (commands_of rs) ≡ Is d → (j : ℕ) × (j < length rs) × ((get_or rs j no_row).command ≡ Declare u d)
+  pub found_row : (rs : Rows) (d : ℕ) → diameter_by (commands_of rs) ≡ Ok d → (j : ℕ) × (j < length rs) × ((get_or rs j no_row).command ≡ Declare u d)
   unfolding commands_of diameter_by
   found_row [] d e = absurd (let z : ◌≡◌ {A = ℕ} 0 1 = cc in omega arith)
   found_row (r ∷ rs) d e = by (declared_by u r.command) refl (found_row rs d) e
     where
-      by : (x : Declared) → declared_by u r.command ≡ x
-          → (diameter_by (commands_of rs) ≡ Is d → (j : ℕ) × (j < length rs) × ((get_or rs j no_row).command ≡ Declare u d))
-          → on_declared x (diameter_by (commands_of rs)) ≡ Is d → (j : ℕ) × (j < length (r ∷ rs)) × ((get_or (r ∷ rs) j no_row).command ≡ Declare u d)
-      by Other f ih g = let w = ih g in (suc w.0, omega (arith, w.1), w.2)
-      by (Diameter m) f ih g = let h : m ≡ d = cc in (0, omega arith, declared_is u r.command m f ∙ ap (Declare u) h)
+      by : (x : Option ℕ) → declared_by u r.command ≡ x
+          → (diameter_by (commands_of rs) ≡ Ok d → (j : ℕ) × (j < length rs) × ((get_or rs j no_row).command ≡ Declare u d))
+          → on_declared x (diameter_by (commands_of rs)) ≡ Ok d → (j : ℕ) × (j < length (r ∷ rs)) × ((get_or (r ∷ rs) j no_row).command ≡ Declare u d)
+      by None f ih g = let w = ih g in (suc w.0, omega (arith, w.1), w.2)
+      by (Some m) f ih g = let h : m ≡ d = cc in (0, omega arith, declared_is u r.command m f ∙ ap (Declare u) h)

@@ -7,11 +7,11 @@ use native.Mathlib.Omega.{arith}
 use lib.IntN.{ℤ}
 use lib.ListN.{length, take, drop, length-append, length-drop, take-append-drop}
 use lib.Seq.{drop-drop, drop_at, length-take-le}
+use Rattle.std.specs.Prelude.{Some, None}
 use Rattle.runs.specs.Machine.{Row, holds, all_hold}
 use Rattle.rules.specs.declared.Command.{Command}
 use Rattle.rules.specs.declared.State.{State}
-use Rattle.rules.specs.declared.Looked.{Looked}
-use Rattle.rules.specs.declared.Looked.TheVariants.{Holds, Bad}
+use Rattle.rules.specs.Results.{Looked, row_found}
 use Rattle.rules.specs.Rows.{row_width, row_numbers, table_numbers, look_of, entry_of, entries_of}
 use Rattle.laws.proofs.InRange.{RowsOk}
 use Rattle.laws.proofs.Rows.{row_length, look_numbers, look_holds}
@@ -69,11 +69,11 @@ entries_table (r ∷ rs) rest h =
 
 -- ---- a table of whole rows is their numbers
 
-entry_holds : (l : Looked) (r : Row Command State) → entry_of l ≡ holds r → l ≡ Holds r.command r.state
-entry_holds (Holds c s) r e =
-    let same : ◌≡◌ {A = Row Command State} (record { command = c; state = s }) r = cc in
-    ap (λ (z : Row Command State). Holds z.command z.state) same
-entry_holds Bad r e = absurd (let z : ◌≡◌ {A = ℕ} 0 1 = cc in omega arith)
+entry_holds : (l : Looked) (r : Row Command State) → entry_of l ≡ holds r → l ≡ row_found r.command r.state
+entry_holds (Some r') r e =
+    let same : ◌≡◌ {A = Row Command State} (record { command = r'.command; state = r'.state }) r = cc in
+    ap (λ (z : Row Command State). row_found z.command z.state) same
+entry_holds None r e = absurd (let z : ◌≡◌ {A = ℕ} 0 1 = cc in omega arith)
 
 pub table_whole : (n : ℕ) (t : List ℤ) (rs : List (Row Command State)) → entries_of n t ≡ all_hold rs → row_width * n ≤ length t
     → (t ≡ table_numbers rs ++ drop (row_width * n) t) × RowsOk rs × (length rs ≡ n)

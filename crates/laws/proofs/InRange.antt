@@ -1,24 +1,27 @@
--- A line that says a command says one whose numbers are in range (where it is refused the command is a comment), and a
+-- A line that says a command says one whose numbers are in range, and a
 -- step keeps the ranges of a state: so rows that lines read as are in range.
 use mathlib.Core.Path.{◌≡◌, refl, subst}
-use mathlib.Core.Bool.{Bool, true, false, cond}
+use mathlib.Core.Bool.{Bool, true, false}
 use mathlib.Core.List.{List, [], ◌∷◌, ◌++◌}
 use Prim.Native.Nat.{ℕ, zero, suc, ◌+◌, ◌-◌, ◌%◌, ◌^◌, ◌≤◌}
 use native.Mathlib.Omega.{arith}
 use native.Mathlib.Nat.{mul-mod_left}
-use lib.Dec.{leb, eqb}
+use lib.Dec.{leb}
 use lib.IntN.{pos, neg_ℤ, nat_abs}
 use lib.ListN.{length, get_or, take, drop}
+use Rattle.std.specs.Prelude.{Result, Ok, Err}
 use Rattle.lists.proofs.Choice.{cond_all}
-use Rattle.runs.specs.Machine.{yields, stops, last_of, nil, link}
+use Rattle.runs.specs.Machine.{yields, last_of, nil, link}
 use Rattle.runs.proofs.Append.{Reads}
 use Rattle.runs.proofs.Meeting.{Redone, past, met, on}
+use Rattle.rules.specs.declared.Refusal.{Refusal}
 use Rattle.rules.specs.declared.State.{State}
 use Rattle.rules.specs.declared.Command.{Command}
 use Rattle.rules.specs.declared.Command.TheVariants as K
 use Rattle.rules.specs.declared.LineAnswer.{LineAnswer}
 use Rattle.rules.specs.declared.Revision.{Revision}
 use Rattle.points.specs.Points.{place_of}
+use Rattle.rules.specs.Results.{out_of}
 use Rattle.rules.specs.Numbers.{max_line, max_number, max_tool, max_places, max_lines, Decimal, with_sign, millionths, is_coordinate, coordinate_of, is_size, is_tool}
 use Rattle.rules.specs.Lines.{Line, text_of, is_printable}
 use Rattle.rules.specs.Commands.{Form, comment, m48, metric, inch, declare, percent, g05, g00, select, hit, m15, m16, g01, g02, g03, m30, Formed, is, no_form, form_of, column_after, says, point_of, arc_of, in_range, point_in_range, arc_in_range, meaning_of, on_form, command_of, line_of}
@@ -51,22 +54,30 @@ size_whole d = mul-mod_left d.digits (10 ^ (max_places - d.places))
 tool_ok : (t : ℕ) → is_tool t ≡ true → NumberOk 1 max_tool t
 tool_ok t e = let h = tool_says t e in record { low = h.0; high = h.1 }
 
-within_range : (t : Bool) (k : ℕ) (a : LineAnswer) → (t ≡ true → CommandOk a.command) → CommandOk (in_range t k a).command
+-- the command that a line says, if it says one, is in range
+abbrev AnswerOk : Result Command Refusal → Type 0
+AnswerOk (Ok c) = CommandOk c
+AnswerOk (Err e) = Unit {0}
+
+abbrev pub SaysOk : LineAnswer → Type 0
+SaysOk a = AnswerOk a.command
+
+within_range : (t : Bool) (k : ℕ) (a : LineAnswer) → (t ≡ true → SaysOk a) → SaysOk (in_range t k a)
 unfolding in_range
 within_range true k a h = h refl
 within_range false k a h = tt
 
 module _ (after : ℕ → ℕ) where
-  point_ok : (x y : Decimal) (a : LineAnswer) → (PointOk (point_of x y) → CommandOk a.command) → CommandOk (point_in_range after x y a).command
+  point_ok : (x y : Decimal) (a : LineAnswer) → (PointOk (point_of x y) → SaysOk a) → SaysOk (point_in_range after x y a)
   point_ok x y a h =
       within_range (is_coordinate x) _ _ (λ p. within_range (is_coordinate y) _ a (λ q. h (record { x_range = coordinate_ok x p; y_range = coordinate_ok y q })))
 
-  arc_ok : (x y r : Decimal) (a : LineAnswer) → (ArcOk (arc_of x y r) → CommandOk a.command) → CommandOk (arc_in_range after x y r a).command
+  arc_ok : (x y r : Decimal) (a : LineAnswer) → (ArcOk (arc_of x y r) → SaysOk a) → SaysOk (arc_in_range after x y r a)
   arc_ok x y r a h =
       point_ok x y _ (λ p. within_range (is_size r) _ a
       (λ q. h (record { to_range = p; radius_range = size_ok r q; decimals_range = (size_says r q).0; whole_places = size_whole r })))
 
-  meaning_ok : (f : Form) → CommandOk (meaning_of after f).command
+  meaning_ok : (f : Form) → SaysOk (meaning_of after f)
   unfolding meaning_of
   meaning_ok comment = tt
   meaning_ok m48 = tt
@@ -85,15 +96,15 @@ module _ (after : ℕ → ℕ) where
   meaning_ok (g03 x y r) = arc_ok x y r (says (K.G03 (arc_of x y r))) (λ p. p)
   meaning_ok m30 = tt
 
-  form_ok : (f : Formed) → CommandOk (on_form after f).command
+  form_ok : (f : Formed) → SaysOk (on_form after f)
   form_ok (is f) = meaning_ok f
   form_ok no_form = tt
 
-pub line_ok : (rev : Revision) (l : List ℕ) → CommandOk (line_of rev l).command
+pub line_ok : (rev : Revision) (l : List ℕ) → SaysOk (line_of rev l)
 unfolding line_of command_of
 line_ok rev l =
-    cond_all (λ (a : LineAnswer). CommandOk a.command) (leb (length l) max_line)
-    (λ _. cond_all (λ (a : LineAnswer). CommandOk a.command) (is_printable l) (λ _. form_ok (column_after 0 l) (form_of rev l)) (λ _. tt))
+    cond_all (λ (a : LineAnswer). SaysOk a) (leb (length l) max_line)
+    (λ _. cond_all (λ (a : LineAnswer). SaysOk a) (is_printable l) (λ _. form_ok (column_after 0 l) (form_of rev l)) (λ _. tt))
     (λ _. tt)
 
 -- ---- rows
@@ -136,12 +147,12 @@ last_ok p [] s g = s
 last_ok p (r ∷ rs) s g = last_ok r.state rs g.1 g.2
 
 -- the command that an answer gives
-answer_ok : (a : LineAnswer) (c : Command) → CommandOk a.command → say_out a ≡ yields c → CommandOk c
-answer_ok a c h = by (eqb a.refusal.number 0)
+answer_ok : (a : LineAnswer) (c : Command) → SaysOk a → say_out a ≡ yields c → CommandOk c
+answer_ok a c h = by a.command h
   where
-    by : (t : Bool) → cond t (yields a.command) (stops a.refusal) ≡ yields c → CommandOk c
-    by true e = let d : a.command ≡ c = cc in subst CommandOk d h
-    by false e = absurd (let z : ◌≡◌ {A = ℕ} 0 1 = cc in omega arith)
+    by : (r : Result Command Refusal) → AnswerOk r → out_of r ≡ yields c → CommandOk c
+    by (Ok d) g e = let same : d ≡ c = cc in subst CommandOk same g
+    by (Err f) g e = absurd (let z : ◌≡◌ {A = ℕ} 0 1 = cc in omega arith)
 
 pub said_ok : (rev : Revision) (l : List ℕ) (c : Command) → say_out (line_of rev l) ≡ yields c → CommandOk c
 said_ok rev l c h = answer_ok (line_of rev l) c (line_ok rev l) h
@@ -150,8 +161,8 @@ pub read_ok : (rev : Revision) (i : ℕ) (l : Line) (c : Command) → command_in
 unfolding command_in answer_in
 read_ok rev i l c h =
     answer_ok (answer_in rev i l) c
-    (cond_all (λ (a : LineAnswer). CommandOk a.command) (leb i max_lines)
-    (λ _. cond_all (λ (a : LineAnswer). CommandOk a.command) l.ended (λ _. line_ok rev (text_of l.bytes)) (λ _. tt))
+    (cond_all (λ (a : LineAnswer). SaysOk a) (leb i max_lines)
+    (λ _. cond_all (λ (a : LineAnswer). SaysOk a) l.ended (λ _. line_ok rev (text_of l.bytes)) (λ _. tt))
     (λ _. tt)) h
 
 pub reads_ok : (rev : Revision) {p : State} {ls : List Line} {i : ℕ} {rs : Rows} → Reads (command_in rev) taken p ls i rs → StateOk p → RowsOk rs

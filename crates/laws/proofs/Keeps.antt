@@ -5,19 +5,19 @@ use mathlib.Core.Path.{◌≡◌, ap, subst}
 use native.Mathlib.Omega.{arith}
 use mathlib.Core.Bool.{Bool, true, false}
 use lib.Dec.{lit≤}
+use Rattle.std.specs.Prelude.{Result, Ok, Err}
 use Rattle.points.specs.declared.Point.{Point}
 use Rattle.tools.specs.declared.Tools.{Tools}
 use Rattle.rules.specs.declared.State.{State}
 use Rattle.rules.specs.declared.Refusal.{Refusal}
 use Rattle.rules.specs.declared.Command.{Command}
 use Rattle.rules.specs.declared.Command.TheVariants.{Comment, M48, Metric, Inch, Declare, Percent, G05, G00, Select, Hit, M15, M16, G01, G02, G03, M30}
-use Rattle.rules.specs.declared.Next.{Next}
-use Rattle.rules.specs.declared.Next.TheVariants.{To, No}
+use Rattle.rules.specs.Results.{out_of}
 use Rattle.rules.specs.Numbers.{max_tool}
 use Rattle.tools.specs.Set.{insert}
 use Rattle.runs.specs.Machine.{yields}
 use Rattle.points.specs.Points.{origin}
-use Rattle.rules.specs.State.{bare_header, header, body, over, metric_unit, inch_unit, drill, tool_up, tool_down, start, need, step, out_of, taken, in_phase, in_unit, in_motion, with_tool, gone_to, with_tools}
+use Rattle.rules.specs.State.{bare_header, header, body, over, metric_unit, inch_unit, drill, tool_up, tool_down, start, need, step, taken, in_phase, in_unit, in_motion, with_tool, gone_to, with_tools}
 use Rattle.tools.specs.Ranges.{ToolsOk}
 use Rattle.rules.specs.Ranges.{PointOk, StateOk, CommandOk}
 use Rattle.tools.proofs.Set.{none_ok, insert_ok}
@@ -28,9 +28,9 @@ origin_ok = record { x_range = lit≤ tt; y_range = lit≤ tt }
 pub start_ok : StateOk start
 start_ok = record { phase_range = lit≤ tt; unit_range = lit≤ tt; motion_range = lit≤ tt; tool_range = lit≤ tt; at_range = origin_ok; tools_range = none_ok }
 
-to_state : (x : Next) (q : State) → out_of x ≡ yields q → x ≡ To q
-to_state (To s) q h = let e : s ≡ q = cc in ap To e
-to_state (No e) q h = absurd (let z : ◌≡◌ {A = ℕ} 0 1 = cc in omega arith)
+to_state : (x : (Result State Refusal)) (q : State) → out_of x ≡ yields q → x ≡ Ok q
+to_state (Ok s) q h = let e : s ≡ q = cc in ap Ok e
+to_state (Err e) q h = absurd (let z : ◌≡◌ {A = ℕ} 0 1 = cc in omega arith)
 
 -- ---- a state with one part new
 
@@ -65,11 +65,11 @@ pub record Kept (P : State → Type 0) : Type 0 where
   pub declared : (s : State) (t : ℕ) → 1 ≤ t → P s → P (with_tools (insert s.tools t) s)
 
 -- where there is a next state, it has the property
-abbrev pub After : (State → Type 0) → Next → Type 0
-After P (To q) = P q
-After P (No e) = Unit {0}
+abbrev pub After : (State → Type 0) → Result State Refusal → Type 0
+After P (Ok q) = P q
+After P (Err e) = Unit {0}
 
-pub after_need : (P : State → Type 0) (b : Bool) (e : Refusal) (x : Next) → After P x → After P (need b e x)
+pub after_need : (P : State → Type 0) (b : Bool) (e : Refusal) (x : Result State Refusal) → After P x → After P (need b e x)
 unfolding need
 after_need P true e x k = k
 after_need P false e x k = tt
@@ -78,7 +78,7 @@ pub taken_after : (P : State → Type 0) (s q : State) (c : Command) → After P
 taken_after P s q c h e = subst (After P) (to_state (step s c) q e) h
 
 module _ (P : State → Type 0) (k : Kept P) where
-  if_needed : (b : Bool) (e : Refusal) (x : Next) → After P x → After P (need b e x)
+  if_needed : (b : Bool) (e : Refusal) (x : Result State Refusal) → After P x → After P (need b e x)
   if_needed b e x h = after_need P b e x h
 
   pub step_keeps : (s : State) (c : Command) → P s → CommandOk c → After P (step s c)
@@ -118,5 +118,5 @@ ranges_kept = record {
 pub taken_ok : (s q : State) (c : Command) → StateOk s → CommandOk c → taken s c ≡ yields q → StateOk q
 taken_ok s q c a b h = taken_keeps StateOk ranges_kept s q c a b h
 
-pub keeps : (s q : State) (c : Command) → StateOk s → CommandOk c → step s c ≡ To q → StateOk q
+pub keeps : (s q : State) (c : Command) → StateOk s → CommandOk c → step s c ≡ Ok q → StateOk q
 keeps s q c h l e = subst (After StateOk) e (step_keeps StateOk ranges_kept s c h l)

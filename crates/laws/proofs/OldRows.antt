@@ -6,6 +6,7 @@ use native.Mathlib.Omega.{arith}
 use lib.IntN.{ℤ}
 use lib.ListN.{length, take, drop}
 use lib.Seq.{drop-cons}
+use Rattle.std.specs.Prelude.{Option, Some, None}
 use Rattle.lists.proofs.Choice.{cond_all}
 use Rattle.runs.specs.Machine.{Verdict, accepted, refused, on_out, Row, Entry, holds, bad, all_hold, Span}
 use Rattle.runs.proofs.Ways.{out_all}
@@ -14,8 +15,6 @@ use Rattle.rules.specs.declared.Command.{Command}
 use Rattle.rules.specs.declared.State.{State}
 use Rattle.rules.specs.declared.Refusal.{Refusal}
 use Rattle.rules.specs.declared.Revision.{Revision}
-use Rattle.rules.specs.declared.Before.{Before}
-use Rattle.rules.specs.declared.Before.TheVariants.{From, Bad}
 use Rattle.rules.specs.Refusals.{bad_table, ends_too_soon, no_such_line, holds_line_end}
 use Rattle.rules.specs.Commands.{line_of}
 use Rattle.rules.specs.State.{taken, has_ended, same_state}
@@ -26,7 +25,7 @@ use Rattle.laws.proofs.Sizes.{line_says}
 use Rattle.laws.proofs.Entries.{entries_length}
 use Rattle.laws.proofs.Ways.{before_all}
 
-state_whole : (e : Entry Command State) (o : State) (es : List (Entry Command State)) → state_in e ≡ From o → AllWhole es → AllWhole (e ∷ es)
+state_whole : (e : Entry Command State) (o : State) (es : List (Entry Command State)) → state_in e ≡ Some o → AllWhole es → AllWhole (e ∷ es)
 state_whole (holds r) o es h w = w
 state_whole bad o es h w = absurd (let z : ◌≡◌ {A = ℕ} 0 1 = cc in omega arith)
 
@@ -45,21 +44,21 @@ module _ (rev : Revision) (t : List ℤ) (n k : ℕ) (l : List ℕ) where
         drop-cons (entries_of n t) (k - 1) bad (omega (arith, entries_length n t)) ∙ rw z
 
     -- j rows, of which the first is the edited line's
-    again : (o : State) → state_in (entry_at (entries_of n t) k) ≡ From o → (r : Row Command State) (j : ℕ) → AllWhole (take j (holds r ∷ drop k (entries_of n t)))
+    again : (o : State) → state_in (entry_at (entries_of n t) k) ≡ Some o → (r : Row Command State) (j : ℕ) → AllWhole (take j (holds r ∷ drop k (entries_of n t)))
         → AllWhole (take j (drop (k - 1) (entries_of n t)))
     again o e r zero h = tt
     again o e r (suc j) h = rw first (state_whole (entry_at (entries_of n t) k) o (take j (drop k (entries_of n t))) e h)
 
-    rerun_stood : (p o : State) → state_in (entry_at (entries_of n t) k) ≡ From o → (c : Command) → Stood (edit_from (entries_of n t) k p o c)
+    rerun_stood : (p o : State) → state_in (entry_at (entries_of n t) k) ≡ Some o → (c : Command) → Stood (edit_from (entries_of n t) k p o c)
     unfolding Stood edit_from
     rerun_stood p o e c s h =
         again o e (record { command = c; state = o }) (length s.rows)
         (rerun_whole taken same_state has_ended bad_table ends_too_soon p (holds (record { command = c; state = o }) ∷ drop k (entries_of n t)) (k - 1) s h)
 
-    old_stood : (p : State) (x : Before) → state_in (entry_at (entries_of n t) k) ≡ x
+    old_stood : (p : State) (x : Option State) → state_in (entry_at (entries_of n t) k) ≡ x
         → Stood (on_before x (refused bad_table k) (λ o. on_out (say_out (line_of rev l)) (λ e. refused e k) (λ c. edit_from (entries_of n t) k p o c)))
-    old_stood p (From o) e = out_all Stood (say_out (line_of rev l)) (λ a _. none_stood a k) (λ c _. rerun_stood p o e c)
-    old_stood p Bad e = none_stood bad_table k
+    old_stood p (Some o) e = out_all Stood (say_out (line_of rev l)) (λ a _. none_stood a k) (λ c _. rerun_stood p o e c)
+    old_stood p None e = none_stood bad_table k
 
     rows_stood : Stood (edit_rows rev (entries_of n t) k l)
     unfolding edit_rows

@@ -9,6 +9,8 @@ use lib.Dec.{eqb}
 use lib.IntN.{ℤ, pos, nat_abs}
 use lib.ListN.{length, take, drop, drop_of_length-le, length-append}
 use lib.Seq.{drop-cons, take_at}
+use Rattle.std.specs.Prelude.{None}
+use Rattle.rules.proofs.Said.{row_same}
 use Rattle.lists.proofs.Choice.{both}
 use Rattle.runs.specs.Machine.{Row}
 use Rattle.points.specs.declared.Point.{Point}
@@ -17,7 +19,7 @@ use Rattle.points.specs.Points.{place_of}
 use Rattle.rules.specs.declared.State.{State}
 use Rattle.rules.specs.declared.Command.{Command}
 use Rattle.rules.specs.declared.Command.TheVariants.{Comment, M48, Metric, Inch, Declare, Percent, G05, G00, Select, Hit, M15, M16, G01, G02, G03, M30}
-use Rattle.rules.specs.declared.Looked.TheVariants.{Holds, Bad}
+use Rattle.rules.specs.Results.{row_found}
 use Rattle.rules.specs.Numbers.{max_number, max_tool, max_places}
 use Rattle.rules.specs.Kinds as Kinds
 use Rattle.rules.specs.State.{over, inch_unit, tool_down}
@@ -166,11 +168,11 @@ state_legal c s h =
     let a = command_numbers c in
     rw (list_fields a 5 (command_length c)) (five_state (field a 0) (field a 1) (field a 2) (field a 3) (field a 4) s (pos (decimals_of c) ∷ []) h)
 
-pub look_yes : (a : List ℤ) (c : Command) (s : State) → row_test a ≡ true → command_at a ≡ c → state_at a ≡ s → look_of a ≡ Holds c s
+pub look_yes : (a : List ℤ) (c : Command) (s : State) → row_test a ≡ true → command_at a ≡ c → state_at a ≡ s → look_of a ≡ row_found c s
 unfolding look_of
-look_yes a c s e f g = rw e (λ i. Holds (f i) (g i))
+look_yes a c s e f g = rw e (λ i. row_found (f i) (g i))
 
-pub look_row : (r : Row Command State) → CommandOk r.command → StateOk r.state → look_of (row_numbers r) ≡ Holds r.command r.state
+pub look_row : (r : Row Command State) → CommandOk r.command → StateOk r.state → look_of (row_numbers r) ≡ row_found r.command r.state
 unfolding row_test
 look_row r h k =
     look_yes (row_numbers r) r.command r.state
@@ -178,7 +180,7 @@ look_row r h k =
     (command_back r.command r.state) (state_back r.command r.state)
 
 pub look_numbers : (r : Row Command State) → CommandOk r.command → StateOk r.state → (rest : List ℤ)
-    → look_of (take row_width (row_numbers r ++ rest)) ≡ Holds r.command r.state
+    → look_of (take row_width (row_numbers r ++ rest)) ≡ row_found r.command r.state
 look_numbers r h k rest = rw (take_at (row_numbers r) rest row_width (row_length r)) (look_row r h k)
 
 -- ---- what looks whole is a row in range
@@ -314,14 +316,13 @@ module _ (a : List ℤ) (c : Command) (s : State) (n : length a ≡ row_width) w
     pub command_ok : CommandOk c
     pub state_ok : StateOk s
 
-  look_passes : (t : Bool) → row_test a ≡ t → cond t (Holds (command_at a) (state_at a)) Bad ≡ Holds c s → IsRow
+  look_passes : (t : Bool) → row_test a ≡ t → cond t (row_found (command_at a) (state_at a)) None ≡ row_found c s → IsRow
   look_passes true e q =
-      let same_command : command_at a ≡ c = cc in
-      let same_state_lem : state_at a ≡ s = cc in
-      let w = rw (same_command, same_state_lem) at (test_says a n e) in
+      let same = row_same q in
+      let w = rw (same.0, same.1) at (test_says a n e) in
       record { numbers = w.0; command_ok = w.1; state_ok = w.2 }
   look_passes false e q = absurd (let z : ◌≡◌ {A = ℕ} 0 1 = cc in omega arith)
 
-  pub look_holds : look_of a ≡ Holds c s → IsRow
+  pub look_holds : look_of a ≡ row_found c s → IsRow
   unfolding look_of
   look_holds e = look_passes (row_test a) refl e

@@ -1,34 +1,42 @@
 -- The lines of a file, a line at a time: what stands before the first LF is the first line, and after it come the others.
-use mathlib.Core.Path.{◌≡◌, refl}
-use mathlib.Core.Bool.{Bool, true, false, cond}
+use mathlib.Core.Path.{◌≡◌, refl, sym, ap, ◌∙◌}
+use mathlib.Core.Bool.{Bool, true, false, not, cond}
 use mathlib.Core.List.{List, [], ◌∷◌}
 use Prim.Native.Nat.{ℕ, suc, ◌+◌, ◌-◌, ◌<◌, ◌≤◌, zero-le, suc-le-suc}
 use native.Mathlib.Omega.{arith}
 use native.Mathlib.Numerals.{add-one}
 use native.Mathlib.Decide.{dec_lt}
 use lib.Dec.{ltb, eqb, leb-suc-suc}
-use lib.ListN.{length, drop, take, get_or, drop_of_length-le, length-drop}
-use lib.Seq.{drop-cons, drop-drop}
-use borrow.Author.Tests.{lt-ltb, le-ltb, eq-eqb, ne_eqb}
+use lib.ListN.{length, drop, take, drop_of_length-le, length-drop}
+use lib.Seq.{drop-drop}
+use borrow.Author.Tests.{lt-ltb, le-ltb}
+use Rattle.std.specs.Prelude.{◌==◌, position}
+use Rattle.std.specs.List.{position_or_len}
+use Rattle.std.specs.Option.{unwrap_or}
+use Rattle.std.proofs.lemmas.List.Sums.{prefix_len-le-length}
+use Rattle.std.proofs.lemmas.List.Recursion.{is_position_or_len}
 use Rattle.lists.proofs.Choice.{cond_all}
 use Rattle.rules.specs.Lines.{LF, empty_line, add_byte, lines_of}
 use Rattle.line.specs.Line.{find_lf, line_of_bytes}
 
 -- ---- the place of the LF
 
-module _ (s : List ℕ) (i : ℕ) where
-  pub find_end : length s ≤ i → find_lf (drop i s) ≡ 0
-  unfolding find_lf
-  find_end h = rw (drop_of_length-le s h)
+-- it is the first byte that is one, or the length where none is
+pub find_first : (l : List ℕ) → unwrap_or (position (λ b. b == LF) l) (length l) ≡ find_lf l
+unfolding find_lf
+find_first l = go (dec_lt first (length l)) ∙ sym (is_position_or_len find_lf (λ b. b == LF) refl (λ b bs. ap (cond (b == LF) 0) (omega arith)) l)
+  where
+    first : ℕ
+    first = position_or_len (λ b. b == LF) l
 
-  module _ (h : i < length s) where
-    pub find_hit : get_or s i 0 ≡ LF → find_lf (drop i s) ≡ 0
-    unfolding find_lf
-    find_hit e = rw (drop-cons s i 0 h, eq-eqb (get_or s i 0) LF e)
+    go : Dec (first < length l) → unwrap_or (position (λ b. b == LF) l) (length l) ≡ first
+    go (yes h) = rw (lt-ltb first (length l) h)
+    go (no h) = rw (le-ltb first (length l) (omega arith)) (omega (arith, prefix_len-le-length (λ b. not (b == LF)) l))
 
-    pub find_next : (get_or s i 0 ≡ LF → ⊥) → find_lf (drop i s) ≡ find_lf (drop (i + 1) s) + 1
-    unfolding find_lf
-    find_next e = rw (drop-cons s i 0 h, ne_eqb (get_or s i 0) LF e, add-one i)
+-- past the end there is none
+pub find_end : (s : List ℕ) (i : ℕ) → length s ≤ i → find_lf (drop i s) ≡ 0
+unfolding find_lf
+find_end s i h = rw (drop_of_length-le s h)
 
 pub find_within : (l : List ℕ) → find_lf l ≤ length l
 unfolding find_lf

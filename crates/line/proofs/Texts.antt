@@ -1,13 +1,15 @@
 -- A line's text: without its CR, looked at byte by byte, and the refusals in their order.
-use mathlib.Core.Path.{◌≡◌, refl}
-use mathlib.Core.Bool.{Bool, true, false, not, ◌&&◌, cond, and-false}
+use mathlib.Core.Path.{◌≡◌, refl, ap, ◌∙◌}
+use mathlib.Core.Bool.{Bool, true, false, not, ◌&&◌, cond}
 use mathlib.Core.List.{List, [], ◌∷◌}
 use Prim.Native.Nat.{ℕ, suc, ◌+◌, ◌-◌, ◌<◌, ◌≤◌}
 use native.Mathlib.Omega.{arith}
-use native.Mathlib.Numerals.{add-one}
 use borrow.Author.Tests.{not-true, not-false, lt-ltb, le-ltb, le-leb, lt-leb, eq-eqb, ne_eqb}
-use lib.ListN.{length, take, get_or, drop, drop_of_length-le}
-use lib.Seq.{drop-cons}
+use lib.ListN.{length, take, get_or}
+use Rattle.std.specs.Prelude.{take_while}
+use Rattle.std.specs.List.{prefix_len}
+use Rattle.std.proofs.lemmas.List.Folds.{length-prefix_len}
+use Rattle.std.proofs.lemmas.List.Recursion.{same_from_clauses}
 use Rattle.rules.specs.declared.Revision.{Revision}
 use Rattle.rules.specs.Refusals.{too_many_lines, line_not_ended, line_too_long, forbidden_byte}
 use Rattle.rules.specs.Numbers.{max_lines, max_line}
@@ -32,27 +34,14 @@ module _ (l : List ℕ) where
     unfolding text_of ends_in_cr
     text_other e = rw (lt-ltb 0 (length l) h, ne_eqb (get_or l (length l - 1) 0) CR e)
 
--- ---- the bytes that a line may hold: i were passed, and those allowed from here on are the others
+-- ---- the bytes that a line may hold
 
-module _ (s : List ℕ) (i : ℕ) (e : i + allowed_bytes (drop i s) ≡ allowed_bytes s) where
-  pub allowed_end : length s ≤ i → i ≡ allowed_bytes s
-  unfolding allowed_bytes
-  allowed_end h = let z : allowed_bytes (drop i s) ≡ 0 = rw (drop_of_length-le s h) in omega arith
-
-  module _ (h : i < length s) where
-    pub allowed_low : get_or s i 0 < 32 → i ≡ allowed_bytes s
-    unfolding allowed_bytes
-    allowed_low p = let z : allowed_bytes (drop i s) ≡ 0 = rw (drop-cons s i 0 h, lt-leb 32 (get_or s i 0) p) in omega arith
-
-    pub allowed_high : 126 < get_or s i 0 → i ≡ allowed_bytes s
-    unfolding allowed_bytes
-    allowed_high q = let z : allowed_bytes (drop i s) ≡ 0 = rw (drop-cons s i 0 h, lt-leb (get_or s i 0) 126 q, and-false) in omega arith
-
-    pub allowed_turn : 32 ≤ get_or s i 0 → get_or s i 0 ≤ 126 → i + 1 + allowed_bytes (drop (i + 1) s) ≡ allowed_bytes s
-    unfolding allowed_bytes
-    allowed_turn p q =
-        let z : allowed_bytes (drop i s) ≡ suc (allowed_bytes (drop (suc i) s)) = rw (drop-cons s i 0 h, le-leb 32 (get_or s i 0) p, le-leb (get_or s i 0) 126 q) in
-        rw (add-one i) (omega arith)
+-- those that it begins with
+pub allowed_first : (l : List ℕ) → length (take_while is_allowed l) ≡ allowed_bytes l
+unfolding allowed_bytes
+allowed_first l =
+    length-prefix_len is_allowed l
+    ∙ same_from_clauses (prefix_len is_allowed) allowed_bytes (λ b n. cond (is_allowed b) (1 + n) 0) refl (λ _ _. refl) (λ b bs. ap (λ n. cond (is_allowed b) n 0) (omega arith)) l
 
 -- all of them, or fewer
 some_forbidden : (l : List ℕ) → allowed_bytes l < length l → is_printable l ≡ false

@@ -7,66 +7,42 @@ ghost use Rattle.rules.specs.Commands.{says_no, line_of};
 ghost use Rattle.rules.specs.Reading.{answer_in};
 ghost use Rattle.line.specs.Line.{line_of_bytes, find_lf};
 
-use rules::{
-    Command, LINE_NOT_ENDED, LINE_TOO_LONG, LineAnswer, MAX_LINE, MAX_LINES, Refusal, Revision,
-    TOO_MANY_LINES, forbidden_byte,
-};
+use rules::{Command, LineAnswer, MAX_LINE, MAX_LINES, Refusal, Revision};
 
 /// Where the line that begins at `from` has its LF, or the file's end; past the end it is `from` itself.
-#[tactic(auto, using(crate::proofs::Lines::find_hit))]
 pub fn find_lf(file: &[u8], from: usize) -> usize
     ensures { result ≡ from + find_lf (drop from file.now) }
 {
-    let mut i = from;
-    while i < file.len() {
-        if file[i] == b'\n' {
-            return i;
-        }
-        i += 1;
-    }
-    i
+    let Some(rest) = file.get(from..) else {
+        return from;
+    };
+    from + rest.iter().position(|b| *b == b'\n').unwrap_or(rest.len())
 }
 
 /// A line's bytes without the one CR that belongs to its end.
-#[tactic(auto, using(crate::proofs::Texts::text_cr))]
+#[tactic(auto, using(crate::proofs::Texts::text_cr, crate::proofs::Texts::text_other, crate::proofs::Texts::text_empty))]
 pub fn text_of(line: &[u8]) -> &[u8]
     ensures { (result.now ≡ text_of line.now) × (result.ref_ptr ≡ line.entry.ref_ptr) }
 {
-    let n = line.len();
-    if 0 < n {
-        if line[n - 1] == b'\r' {
-            return &line[..n - 1];
-        }
+    match line {
+        [text @ .., b'\r'] => text,
+        _ => line,
     }
-    line
 }
 
 fn says_no(refusal: Refusal) -> LineAnswer
     ensures { result ≡ says_no refusal }
 {
     LineAnswer {
-        refusal: refusal,
-        command: Command::Comment,
+        command: Err(refusal),
     }
 }
 
 // How many bytes it begins with that are in 32 to 126: the first forbidden byte stands behind them.
-#[tactic(auto, using(crate::proofs::Texts::allowed_low, crate::proofs::Texts::allowed_high, crate::proofs::Texts::allowed_turn, crate::proofs::Texts::allowed_end))]
 fn allowed_bytes(s: &[u8]) -> usize
     ensures { result ≡ allowed_bytes s.now }
 {
-    let mut allowed = 0;
-    while allowed < s.len() {
-        let b = s[allowed];
-        if b < 32 {
-            return allowed;
-        }
-        if 126 < b {
-            return allowed;
-        }
-        allowed += 1;
-    }
-    allowed
+    s.iter().take_while(|b| (32..=126).contains(*b)).count()
 }
 
 /// What a line's text says by a revision: a command, or the refusal 6, 4, 5 or 7, the first that there is ground for; 4 and 7 in their
@@ -76,11 +52,11 @@ pub fn read(text: &[u8], revision: Revision) -> LineAnswer
     ensures { result ≡ line_of revision text.now }
 {
     if MAX_LINE < text.len() {
-        return says_no(LINE_TOO_LONG);
+        return says_no(Refusal::LineTooLong);
     }
     let allowed = allowed_bytes(text);
     if allowed < text.len() {
-        return says_no(forbidden_byte(allowed + 1));
+        return says_no(Refusal::ForbiddenByte(allowed + 1));
     }
     command::read(text, revision)
 }
@@ -92,10 +68,10 @@ pub fn answer(number: usize, line: &[u8], ended: bool, revision: Revision) -> Li
     ensures { result ≡ answer_in revision number (line_of_bytes line.now ended) }
 {
     if MAX_LINES < number {
-        return says_no(TOO_MANY_LINES);
+        return says_no(Refusal::TooManyLines);
     }
     if !ended {
-        return says_no(LINE_NOT_ENDED);
+        return says_no(Refusal::LineNotEnded);
     }
     read(text_of(line), revision)
 }

@@ -2,10 +2,10 @@
 use mathlib.Core.Path.{◌≡◌, refl, sym, ◌∙◌}
 use mathlib.Core.Bool.{Bool, true, false, ◌&&◌, false≢true}
 use Rattle.std.proofs.lemmas.Bool.{eq-eqb, eqb-true}
+use Rattle.std.specs.Prelude.{eqb}
 use Rattle.rules.specs.declared.Hole.{Hole}
 use Rattle.points.specs.Points.{same_point}
 use Rattle.points.proofs.Same.{same_point_iff}
-use Rattle.std.specs.Prelude.{eqb}
 use Rattle.moves.specs.Moves.{same_hole}
 
 same_by_ends :

@@ -8,13 +8,12 @@ use native.Mathlib.Omega.{arith}
 use borrow.Author.Tests.{eq-eqb, ne_eqb}
 use lib.ListN.{length, drop}
 use lib.Seq.{drop-drop}
+use Rattle.std.specs.Prelude.{Option, Some, None}
 use Rattle.lists.specs.Words.{bytes, starts_with}
 use Rattle.rules.specs.Numbers.{DigitRun, NumberRead, got, no_number, digits_of, whole_number, with_fraction, magnitude_of, unsigned_of, signed_of}
 use Rattle.rules.proofs.Columns.{TailOf, tail_at, unsigned_tail, signed_tail}
 use Rattle.number.specs.declared.Run.{Run}
 use Rattle.number.specs.declared.Written.{Written}
-use Rattle.number.specs.declared.Number.{Number}
-use Rattle.number.specs.declared.Number.TheVariants.{Got, None}
 use Rattle.number.specs.Capped.{cap, held_run, number_at, ReadsTo}
 use Rattle.number.proofs.Runs.{pow_pos, capped_more, count_at, run_next, run_rest, run_left, stands_within}
 
@@ -22,8 +21,8 @@ use Rattle.number.proofs.Runs.{pow_pos, capped_more, count_at, run_next, run_res
 
 -- two numbers with the same parts are one
 written : (col : ℕ) (neg : Bool) {a a' b b' c c' : ℕ} → a ≡ a' → b ≡ b' → c ≡ c'
-    → Got (record { column = col; negative = neg; digits = a; places = b; next = c }) ≡ Got (record { column = col; negative = neg; digits = a'; places = b'; next = c' })
-written col neg p q r = λ i. Got (record { column = col; negative = neg; digits = p i; places = q i; next = r i })
+    → ◌≡◌ {A = Option Written} (Some (record { column = col; negative = neg; digits = a; places = b; next = c })) (Some (record { column = col; negative = neg; digits = a'; places = b'; next = c' }))
+written col neg p q r = λ i. Some (record { column = col; negative = neg; digits = p i; places = q i; next = r i })
 
 -- w are the digits from at on; after them comes a point, or none. The number's column is col
 module _ (col : ℕ) (s : List ℕ) (at : ℕ) (neg : Bool) (w : Run) (e : w ≡ held_run at 0 (digits_of (drop at s))) where
@@ -39,7 +38,7 @@ module _ (col : ℕ) (s : List ℕ) (at : ℕ) (neg : Bool) (w : Run) (e : w ≡
     whole_none k = rw (no_point, eq-eqb (digits_of (drop at s)).count 0 (omega (arith, run_next s at 0 e)))
 
     pub whole_got : (w.next ≡ at → ⊥)
-        → Got (record { column = col; negative = neg; digits = w.value; places = 0; next = w.next }) ≡ number_at col (length s) (magnitude_of neg (drop at s))
+        → Some (record { column = col; negative = neg; digits = w.value; places = 0; next = w.next }) ≡ number_at col (length s) (magnitude_of neg (drop at s))
     whole_got k =
         rw (no_point, ne_eqb (digits_of (drop at s)).count 0 (λ z. k (omega (arith, run_next s at 0 e))))
         (written col neg whole_value refl (run_left s at 0 e (omega (arith, count_at s at, run_next s at 0 e))))
@@ -66,31 +65,17 @@ module _ (col : ℕ) (s : List ℕ) (at : ℕ) (neg : Bool) (w : Run) (e : w ≡
             ∙ capped_more (digits_of (drop at s)).value (10 ^ d.count) d.value (pow_pos d.count)
 
     pub point_got : (f.next ≡ at + 1 → ⊥)
-        → Got (record { column = col; negative = neg; digits = f.value; places = f.next - (w.next + 1); next = f.next }) ≡ number_at col (length s) (magnitude_of neg (drop at s))
+        → Some (record { column = col; negative = neg; digits = f.value; places = f.next - (w.next + 1); next = f.next }) ≡ number_at col (length s) (magnitude_of neg (drop at s))
     point_got k =
         rw (after_point, ne_eqb ((digits_of (drop at s)).count + (digits_of (drop (w.next + 1) s)).count) 0 (λ z. k (omega (arith, count))))
         (written col neg point_value (omega (arith, run_next s (w.next + 1) w.value q))
         (run_left s (w.next + 1) w.value q (omega (arith, stands_within s w.next (code ".") st h))))
 
--- ---- the sign
-
-module _ (col : ℕ) (s : List ℕ) (at : ℕ) {r : Number} {m : Bool} (minus : m ≡ starts_with (drop at s) (bytes "-")) where
-  pub signed_minus : m ≡ true → r ≡ number_at col (length s) (magnitude_of true (drop (at + 1) s)) → r ≡ number_at col (length s) (signed_of (drop at s))
-  unfolding signed_of
-  signed_minus h e = rw (← minus, h, drop-drop 1 at s) e
-
-  module _ (g : m ≡ false) {p : Bool} (plus : p ≡ starts_with (drop at s) (bytes "+")) where
-    pub signed_plus : p ≡ true → r ≡ number_at col (length s) (magnitude_of false (drop (at + 1) s)) → r ≡ number_at col (length s) (signed_of (drop at s))
-    unfolding signed_of
-    signed_plus h e = rw (← minus, g, ← plus, h, drop-drop 1 at s) e
-
-    pub signed_bare : p ≡ false → r ≡ number_at col (length s) (unsigned_of (drop at s)) → r ≡ number_at col (length s) (signed_of (drop at s))
-    unfolding signed_of unsigned_of
-    signed_bare h e = rw (← minus, g, ← plus, h) e
+pub ruleset magnitudes = (stands_within, whole_none, whole_got, point_none, point_got)
 
 -- ---- for callers: the number that is held, and that the bytes after it begin at its end
 
-reads : (c at : ℕ) (s : List ℕ) (r : NumberRead) {z : Number} (w : Written) → TailOf (drop at s) r → z ≡ number_at c (length s) r → z ≡ Got w → ReadsTo s c r w
+reads : (c at : ℕ) (s : List ℕ) (r : NumberRead) {z : (Option Written)} (w : Written) → TailOf (drop at s) r → z ≡ number_at c (length s) r → z ≡ Some w → ReadsTo s c r w
 reads c at s (got d rest) w t e g =
     let q : w ≡ record { column = c; negative = d.negative; digits = min d.digits cap; places = d.places; next = length s - length rest } = cc in
     let n : w.next ≡ length s - length rest = ap (λ (z : Written). z.next) q in
@@ -103,13 +88,13 @@ reads c at s (got d rest) w t e g =
     }
 reads c at s no_number w t e g = absurd (let z : ◌≡◌ {A = ℕ} 0 1 = cc in omega arith)
 
-module _ (s : List ℕ) (at : ℕ) {z : Number} (w : Written) where
-  pub signed_reads : z ≡ number_at (at + 1) (length s) (signed_of (drop at s)) → z ≡ Got w → ReadsTo s (at + 1) (signed_of (drop at s)) w
+module _ (s : List ℕ) (at : ℕ) {z : (Option Written)} (w : Written) where
+  pub signed_reads : z ≡ number_at (at + 1) (length s) (signed_of (drop at s)) → z ≡ Some w → ReadsTo s (at + 1) (signed_of (drop at s)) w
   signed_reads = reads (at + 1) at s (signed_of (drop at s)) w (signed_tail (drop at s))
 
-  pub unsigned_reads : z ≡ number_at (at + 1) (length s) (unsigned_of (drop at s)) → z ≡ Got w → ReadsTo s (at + 1) (unsigned_of (drop at s)) w
+  pub unsigned_reads : z ≡ number_at (at + 1) (length s) (unsigned_of (drop at s)) → z ≡ Some w → ReadsTo s (at + 1) (unsigned_of (drop at s)) w
   unsigned_reads = reads (at + 1) at s (unsigned_of (drop at s)) w (unsigned_tail (drop at s))
 
-pub none_reads : (c n : ℕ) (r : NumberRead) {z : Number} → z ≡ number_at c n r → z ≡ None → r ≡ no_number
+pub none_reads : (c n : ℕ) (r : NumberRead) {z : (Option Written)} → z ≡ number_at c n r → z ≡ None → r ≡ no_number
 none_reads c n (got d rest) e g = absurd (let z : ◌≡◌ {A = ℕ} 0 1 = cc in omega arith)
 none_reads c n no_number e g = refl

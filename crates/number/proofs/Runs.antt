@@ -100,6 +100,8 @@ module _ (s : List ℕ) (at from i value : ℕ) (g : Passed s at from i value) w
   pub run_end : length s ≤ i → Held s at from (record { value = value; next = i })
   run_end h = (run_none i value [] g.1 ∙ ap (held_run i value) (sym (digits_end s i h)) ∙ g.0, g.1, g.2)
 
+pub ruleset turns = (below_digits, above_digits, run_turn, run_stop, run_end)
+
 -- ---- how far the digits go, and how large they are
 
 pub digits_rest : (l : List ℕ) → (digits_of l).rest ≡ drop (digits_of l).count l

@@ -2,18 +2,25 @@
 // number out of range still says where it ends, since the form of a whole line is decided before any range.
 #![tactic(auto)]
 
-ghost use Rattle.std.specs.Prelude.{◌≡◌, [], ◌∷◌, ◌<◌, ◌≤◌, ◌+◌, ◌*◌, ◌^◌, ◌-◌, length, drop};
+ghost use Rattle.std.specs.Prelude.{◌≡◌, [], ◌∷◌, ◌<◌, ◌≤◌, ◌+◌, ◌*◌, ◌^◌, ◌-◌, length, drop, cond};
 ghost use Rattle.lists.specs.Words.{starts_with};
-ghost use Rattle.rules.specs.Numbers.{max_places, digits_of, magnitude_of, unsigned_of, signed_of};
+ghost use Rattle.rules.specs.Numbers.{max_places, digits_of, magnitude_of, unsigned_of, signed_of, millionths, is_coordinate};
+ghost use Rattle.rules.specs.Refusals.{out_of_range};
 ghost use Rattle.number.specs.Capped.{cap, pushed, held_run, number_at, decimal_of, coordinate_read, size_read};
 
-use rules::{Refusal, out_of_range};
+use rules::Refusal;
+
+// What a run's value stops at: this stands for all from there on.
+const CAP: u32 = 1_000_000_000;
 
 // Most digits after the point.
 const MAX_PLACES: usize = rules::MAX_PLACES as usize;
 
 // The largest coordinate, diameter and radius, in millionths.
 const MAX_NUMBER: u64 = rules::MAX_NUMBER as u64;
+
+// The millionths in one unit of a number's last place, by how many places it has.
+const LAST_PLACE: [u64; 7] = [1_000_000, 100_000, 10_000, 1_000, 100, 10, 1];
 
 /// Digits: their value, exact below 1000000000, which stands for all from there on; and the place after them.
 #[derive(Clone, Copy)]
@@ -33,35 +40,12 @@ pub struct Written {
     pub next: usize,
 }
 
-/// A number as it is written, or that none begins here.
-#[derive(Clone, Copy)]
-pub enum Number {
-    Got(Written),
-    None,
-}
-
-/// A coordinate in millionths, or that it is out of range, and where.
-#[derive(Clone, Copy)]
-pub enum CoordinateRead {
-    Is(i32),
-    Out(Refusal),
-}
-
-/// A diameter or a radius in millionths, or that it is out of range, and where.
-#[derive(Clone, Copy)]
-pub enum SizeRead {
-    Is(u32),
-    Out(Refusal),
-}
-
 /// Does the byte b stand at the place `at`?
+#[tactic(auto, using(crate::proofs::Runs::stands_at, crate::proofs::Runs::stands_past))]
 pub fn stands(s: &[u8], at: usize, b: u8) -> bool
     ensures { result ≡ starts_with (drop at s.now) (b ∷ []) }
 {
-    if at < s.len() {
-        return s[at] == b;
-    }
-    false
+    s.get(at) == Some(&b)
 }
 
 // One more digit.
@@ -69,41 +53,29 @@ fn push(value: u32, d: u32) -> u32
     requires { d < 10 }
     ensures { (result ≡ pushed value d) × (result ≤ cap) }
 {
-    if value < 100000000 {
+    if value < CAP / 10 {
         value * 10 + d
     } else {
-        1000000000
+        CAP
     }
 }
 
 // The digits from the place `at` on, as further digits of the number `from`.
+#[tactic(auto, using(crate::proofs::Runs::turns))]
 fn digits(s: &[u8], at: usize, from: u32) -> Run
     requires { from ≤ cap }
     ensures { (result ≡ held_run at from (digits_of (drop at s.now))) × (result.value ≤ cap) × (at ≤ result.next) }
 {
-    let mut value = from;
-    let mut i = at;
-    while i < s.len() {
-        let b = s[i];
-        if b < b'0' {
-            return Run {
-                value: value,
-                next: i,
-            };
-        }
-        if b'9' < b {
-            return Run {
-                value: value,
-                next: i,
-            };
-        }
-        value = push(value, (b - b'0') as u32);
-        i += 1;
+    let mut run = Run {
+        value: from,
+        next: at,
+    };
+    // Kept: a place that moves on, and no `for`: the place is part of the answer, also where it is past the end.
+    while let Some(b @ b'0'..=b'9') = s.get(run.next) {
+        run.value = push(run.value, u32::from(*b - b'0'));
+        run.next += 1;
     }
-    Run {
-        value: value,
-        next: i,
-    }
+    run
 }
 
 /// The digits from the place `at` on.
@@ -114,109 +86,90 @@ pub fn run_at(s: &[u8], at: usize) -> Run
 }
 
 // Digits with at most one point, at least one digit in all, from the place `at` on. The number begins at `from`, with its sign.
-fn magnitude(s: &[u8], from: usize, at: usize, negative: bool) -> Number
+#[tactic(auto, using(crate::proofs::Readings::magnitudes))]
+fn magnitude(s: &[u8], from: usize, at: usize, negative: bool) -> Option<Written>
     requires { from ≤ at }
     ensures { result ≡ number_at (from + 1) (length s.now) (magnitude_of negative (drop at s.now)) }
 {
     let whole = run_at(s, at);
-    let point = whole.next;
-    if stands(s, point, b'.') {
-        let first = point + 1;
+    if stands(s, whole.next, b'.') {
+        let first = whole.next + 1;
         let both = digits(s, first, whole.value);
-        let next = both.next;
-        if next == at + 1 {
-            return Number::None;
+        if both.next == at + 1 {
+            return None;
         }
-        return Number::Got(Written {
+        return Some(Written {
             column: from + 1,
-            negative: negative,
+            negative,
             digits: both.value,
-            places: next - first,
-            next: next,
+            places: both.next - first,
+            next: both.next,
         });
     }
-    if point == at {
-        return Number::None;
+    if whole.next == at {
+        return None;
     }
-    Number::Got(Written {
+    Some(Written {
         column: from + 1,
-        negative: negative,
+        negative,
         digits: whole.value,
         places: 0,
-        next: point,
+        next: whole.next,
     })
 }
 
-/// A number without a sign: a diameter or a radius.
-pub fn unsigned(s: &[u8], at: usize) -> Number
+/// A number without a sign, a diameter or a radius, as it is written, or that none begins here.
+#[tactic(auto, unfolding(rules::specs::Numbers::unsigned_of))]
+pub fn unsigned(s: &[u8], at: usize) -> Option<Written>
     ensures { result ≡ number_at (at + 1) (length s.now) (unsigned_of (drop at s.now)) }
 {
     magnitude(s, at, at, false)
 }
 
-/// A number that may have a sign: a coordinate.
-pub fn signed(s: &[u8], at: usize) -> Number
+/// A number that may have a sign, a coordinate, as it is written, or that none begins here.
+#[tactic(auto, unfolding(rules::specs::Numbers::signed_of, rules::specs::Numbers::unsigned_of, lists::specs::Words::starts_with))]
+pub fn signed(s: &[u8], at: usize) -> Option<Written>
     ensures { result ≡ number_at (at + 1) (length s.now) (signed_of (drop at s.now)) }
 {
-    if stands(s, at, b'-') {
-        return magnitude(s, at, at + 1, true);
+    match s.get(at) {
+        Some(b'-') => magnitude(s, at, at + 1, true),
+        Some(b'+') => magnitude(s, at, at + 1, false),
+        _ => unsigned(s, at),
     }
-    if stands(s, at, b'+') {
-        return magnitude(s, at, at + 1, false);
-    }
-    unsigned(s, at)
 }
 
-// A number of at most six places in whole millionths.
-fn millionths(digits: u32, places: usize) -> u64
-    requires { places ≤ max_places }
-    ensures { result ≡ digits * 10 ^ (max_places - places) }
+// The number in whole millionths, or that it has too many places or is too large, and where.
+#[tactic(auto, unfolding(rules::specs::Numbers::is_coordinate, rules::specs::Numbers::millionths))]
+fn in_millionths(w: Written) -> Result<u32, Refusal>
+    ensures { result ≡ cond (is_coordinate (decimal_of w)) (Ok (millionths (decimal_of w))) (Err (out_of_range w.column)) }
 {
-    let n = digits as u64;
-    match places {
-        0 => n * 1000000,
-        1 => n * 100000,
-        2 => n * 10000,
-        3 => n * 1000,
-        4 => n * 100,
-        5 => n * 10,
-        _ => n,
+    if w.places > MAX_PLACES {
+        return Err(Refusal::OutOfRange(w.column));
     }
+    let n = u64::from(w.digits) * LAST_PLACE[w.places];
+    if n > MAX_NUMBER {
+        return Err(Refusal::OutOfRange(w.column));
+    }
+    Ok(n as u32)
 }
 
-/// The coordinate that a number is. The sign is the number's, not its whole part's: -0.5 is below 0, and -0 is 0.
-pub fn coordinate(w: Written) -> CoordinateRead
+/// The coordinate in millionths that a number is, or that it is out of range, and where. The sign is the number's, not its whole
+/// part's: -0.5 is below 0, and -0 is 0.
+#[tactic(auto, unfolding(rules::specs::Numbers::coordinate_of, rules::specs::Numbers::is_coordinate, crate::specs::Capped::coordinate_read))]
+pub fn coordinate(w: Written) -> Result<i32, Refusal>
     ensures { result ≡ coordinate_read w.column (decimal_of w) }
 {
-    let places = w.places;
-    if MAX_PLACES < places {
-        return CoordinateRead::Out(out_of_range(w.column));
-    }
-    let n = millionths(w.digits, places);
-    if MAX_NUMBER < n {
-        return CoordinateRead::Out(out_of_range(w.column));
-    }
-    if w.negative {
-        return CoordinateRead::Is(-(n as i32));
-    }
-    CoordinateRead::Is(n as i32)
+    let n = in_millionths(w)? as i32;
+    Ok(if w.negative { -n } else { n })
 }
 
-/// The diameter or radius that a number without a sign is.
-#[tactic(auto, using(crate::proofs::Ranges::size_zero))]
-pub fn size(w: Written) -> SizeRead
+/// The diameter or radius in millionths that a number without a sign is, or that it is out of range, and where.
+#[tactic(auto, unfolding(rules::specs::Numbers::is_size, rules::specs::Numbers::is_coordinate, crate::specs::Capped::size_read))]
+pub fn size(w: Written) -> Result<u32, Refusal>
     ensures { result ≡ size_read w.column (decimal_of w) }
 {
-    let places = w.places;
-    if MAX_PLACES < places {
-        return SizeRead::Out(out_of_range(w.column));
+    match in_millionths(w)? {
+        0 => Err(Refusal::OutOfRange(w.column)),
+        n => Ok(n),
     }
-    let n = millionths(w.digits, places);
-    if n == 0 {
-        return SizeRead::Out(out_of_range(w.column));
-    }
-    if MAX_NUMBER < n {
-        return SizeRead::Out(out_of_range(w.column));
-    }
-    SizeRead::Is(n as u32)
 }

@@ -7,14 +7,12 @@ use Prim.Native.Nat.{ℕ, zero, suc, ◌≤◌}
 use native.Mathlib.Omega.{arith}
 use borrow.Author.Tests.{ne_eqb}
 use lib.ListN.{get_or}
+use Rattle.std.specs.Prelude.{Option, Some, None, Ok}
 use Rattle.runs.specs.Machine.{yields, Row, commands_of, last_of, Follows, StepBy}
 use Rattle.runs.proofs.Chains.{follows_head, follows_tail}
 use Rattle.rules.specs.declared.Command.{Command}
 use Rattle.rules.specs.declared.Command.TheVariants.{Declare}
 use Rattle.rules.specs.declared.State.{State}
-use Rattle.rules.specs.declared.Declared.{Declared}
-use Rattle.rules.specs.declared.Declared.TheVariants.{Diameter, Other}
-use Rattle.rules.specs.declared.DiameterAnswer.TheVariants.{Is}
 use Rattle.rules.specs.Numbers.{max_tool}
 use Rattle.tools.specs.Set.{has}
 use Rattle.rules.specs.State.{taken}
@@ -58,19 +56,19 @@ module _ (u : ℕ) (low : u ≤ max_tool) where
 
   -- and its diameter is the one found
   pub declared_diameter : (rs : Rows) {p : State} {i : ℕ} → Follows (StepBy taken) p i rs → RowsOk rs
-      → (j m : ℕ) → (get_or rs j no_row).command ≡ Declare u m → diameter_by u (commands_of rs) ≡ Is m
+      → (j m : ℕ) → (get_or rs j no_row).command ≡ Declare u m → diameter_by u (commands_of rs) ≡ Ok m
   unfolding commands_of diameter_by
   declared_diameter [] f ok j m e = absurd (let z : ◌≡◌ {A = ℕ} 0 1 = cc in omega arith)
   declared_diameter (r ∷ rs) f ok zero m e = rw (e, declares u m)
   declared_diameter (r ∷ rs) f ok (suc j) m e = by (declared_by u r.command) refl (declared_diameter rs (follows_tail f) ok.2 j m e)
     where
-      by : (x : Declared) → declared_by u r.command ≡ x → diameter_by u (commands_of rs) ≡ Is m → on_declared x (diameter_by u (commands_of rs)) ≡ Is m
-      by Other g ih = ih
-      by (Diameter d) g ih = absurd (none_after r rs f ok d (declared_is u r.command d g) j m e)
+      by : (x : Option ℕ) → declared_by u r.command ≡ x → diameter_by u (commands_of rs) ≡ Ok m → on_declared x (diameter_by u (commands_of rs)) ≡ Ok m
+      by None g ih = ih
+      by (Some d) g ih = absurd (none_after r rs f ok d (declared_is u r.command d g) j m e)
 
   -- ---- a declared tool has a row
 
-  tool_left : {p q : State} {c : Command} → Takes p c q → declared_by u c ≡ Other → has q.tools u ≡ has p.tools u
+  tool_left : {p q : State} {c : Command} → Takes p c q → declared_by u c ≡ None → has q.tools u ≡ has p.tools u
   tool_left (comment h) e = refl
   tool_left (m48 h) e = refl
   tool_left (metric h) e = refl
@@ -97,7 +95,7 @@ module _ (u : ℕ) (low : u ≤ max_tool) where
   has_diameter [] f n h = absurd (false≢true (sym n ∙ h))
   has_diameter (r ∷ rs) {p} f n h = by (declared_by u r.command) refl (λ z. has_diameter rs (follows_tail f) z h)
     where
-      by : (x : Declared) → declared_by u r.command ≡ x → (has r.state.tools u ≡ false → HasDiameter u rs)
-          → (d : ℕ) × (on_declared x (diameter_by u (commands_of rs)) ≡ Is d)
-      by (Diameter m) e ih = (m, refl)
-      by Other e ih = ih (tool_left (taken_takes p r.command r.state (follows_head f)) e ∙ n)
+      by : (x : Option ℕ) → declared_by u r.command ≡ x → (has r.state.tools u ≡ false → HasDiameter u rs)
+          → (d : ℕ) × (on_declared x (diameter_by u (commands_of rs)) ≡ Ok d)
+      by (Some m) e ih = (m, refl)
+      by None e ih = ih (tool_left (taken_takes p r.command r.state (follows_head f)) e ∙ n)

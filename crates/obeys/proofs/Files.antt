@@ -8,6 +8,7 @@ use native.Mathlib.Omega.{arith}
 use borrow.Author.Tests.{eq-eqb, ne_eqb, eqb-true, eqb-false, le-leb, lt-leb, leb-true, leb-false}
 use lib.Dec.{leb}
 use lib.ListN.{length, length-append}
+use Rattle.std.specs.Prelude.{Result, Ok, Err}
 use Rattle.lists.proofs.Choice.{cond_all}
 use Rattle.runs.specs.Machine.{yields, stops, Verdict, accepted, refused, before, commands_of, last_of, run, Chain, nil, link, Follows}
 use Rattle.runs.proofs.Ways.{out_all}
@@ -16,13 +17,12 @@ use Rattle.runs.proofs.Append.{befores, Reads, run_append, reads_run}
 use Rattle.rules.specs.declared.Command.{Command}
 use Rattle.rules.specs.declared.State.{State}
 use Rattle.rules.specs.declared.Refusal.{Refusal}
-use Rattle.rules.specs.declared.Next.{Next}
-use Rattle.rules.specs.declared.Next.TheVariants.{To, No}
 use Rattle.rules.specs.declared.Revision.{Revision}
+use Rattle.rules.specs.Results.{out_of}
 use Rattle.rules.specs.Refusals.{ends_too_soon}
 use Rattle.rules.specs.Numbers.{max_file, max_lines}
 use Rattle.rules.specs.Lines.{LF, Line, lines_of, text_of, NoLF, AllEnded}
-use Rattle.rules.specs.State.{over, start, step, out_of, taken, has_ended}
+use Rattle.rules.specs.State.{over, start, step, taken, has_ended}
 use Rattle.rules.specs.Spelling.{SpellsLine, FirstLine, SpellsFile, empty}
 use Rattle.rules.specs.Spelling as S
 use Rattle.rules.specs.Reading.{Rows, command_in, run_from, run_of, file_of}
@@ -38,9 +38,9 @@ use Rattle.obeys.proofs.Split.{LineReads, LineFault, beyond, unended, line_fault
 pub taken_takes : (p : State) (c : Command) (q : State) → taken p c ≡ yields q → Takes p c q
 taken_takes p c q e = (step_iff p c q).0 (by (step p c) e)
   where
-    by : (n : Next) → out_of n ≡ yields q → n ≡ To q
-    by (To s) e = let f : s ≡ q = cc in ap To f
-    by (No r) e = absurd (let z : ◌≡◌ {A = ℕ} 0 1 = cc in omega arith)
+    by : (n : Result State Refusal) → out_of n ≡ yields q → n ≡ Ok q
+    by (Ok s) e = let f : s ≡ q = cc in ap Ok f
+    by (Err r) e = absurd (let z : ◌≡◌ {A = ℕ} 0 1 = cc in omega arith)
 
 pub takes_taken : {p q : State} {c : Command} → Takes p c q → taken p c ≡ yields q
 takes_taken {p} {q} {c} w = ap out_of ((step_iff p c q).1 w)
@@ -48,9 +48,9 @@ takes_taken {p} {q} {c} w = ap out_of ((step_iff p c q).1 w)
 pub taken_refused : (p : State) (c : Command) (e : Refusal) → taken p c ≡ stops e → Untaken p c e
 taken_refused p c e d = (refused_iff p c e).0 (by (step p c) d)
   where
-    by : (n : Next) → out_of n ≡ stops e → n ≡ No e
-    by (To s) d = absurd (let z : ◌≡◌ {A = ℕ} 0 1 = cc in omega arith)
-    by (No r) d = let f : r ≡ e = cc in ap No f
+    by : (n : Result State Refusal) → out_of n ≡ stops e → n ≡ Err e
+    by (Ok s) d = absurd (let z : ◌≡◌ {A = ℕ} 0 1 = cc in omega arith)
+    by (Err r) d = let f : r ≡ e = cc in ap Err f
 
 pub refused_taken : {p : State} {c : Command} {e : Refusal} → Untaken p c e → taken p c ≡ stops e
 refused_taken {p} {c} {e} w = ap out_of ((refused_iff p c e).1 w)

@@ -7,9 +7,11 @@ use Prim.Native.Nat.{ℕ, suc, ◌+◌, ◌≤◌}
 use borrow.Author.Tests.{le-leb, lt-leb, leb-true, leb-false}
 use lib.Dec.{leb, eqb}
 use lib.ListN.{length}
+use Rattle.std.specs.Prelude.{Result, Ok, Err, is_ok}
 use Rattle.lists.specs.Words.{bytes}
 use Rattle.lists.proofs.Choice.{cond_all, both}
 use Rattle.runs.specs.Machine.{Out, yields, stops}
+use Rattle.rules.specs.declared.Command.TheVariants.{Comment}
 use Rattle.rules.specs.declared.Command.{Command}
 use Rattle.rules.specs.declared.LineAnswer.{LineAnswer}
 use Rattle.rules.specs.declared.Refusal.{Refusal}
@@ -55,9 +57,16 @@ data CommandSays (rev : Revision) (l : List ℕ) : LineAnswer → Type 0 where
   formless : ((f : Form) → Spells rev l f → ⊥) → CommandSays rev l (says_no no_such_form)
   ranged_out : {f : Form} {c : ℕ} → Spells rev l f → OutAt l f c → CommandSays rev l (says_no (out_of_range c))
 
--- no command has a refusal's number
-not_refused : {a : LineAnswer} {c : Command} → a ≡ says c → eqb a.refusal.number 0 ≡ false → ⊥
-not_refused e f = false≢true (sym f ∙ ap (λ a. eqb a.refusal.number 0) e)
+-- no command is a refusal
+not_refused : {a : LineAnswer} {c : Command} → a ≡ says c → is_ok a.command ≡ false → ⊥
+not_refused e f = false≢true (sym f ∙ ap (λ (a : LineAnswer). is_ok a.command) e)
+
+abbrev told : Result Command Refusal → Command
+told (Ok c) = c
+told (Err e) = Comment
+
+said_same : {c d : Command} → says c ≡ says d → c ≡ d
+said_same e = ap (λ (a : LineAnswer). told a.command) e
 
 command_read : {rev : Revision} {l : List ℕ} {c : Command} → SpellsCommand rev l c → command_of rev l ≡ says c
 unfolding command_of
@@ -115,7 +124,7 @@ command_answer {rev} {l} (formless h) = by (form_of rev l) refl
 command_answer {rev} {l} (ranged_out w o) = ap (on_form (column_after 0 l)) (form_read w) ∙ out_refused o
 
 says_command : {rev : Revision} {l : List ℕ} {a : LineAnswer} {c : Command} → CommandSays rev l a → a ≡ says c → SpellsCommand rev l c
-says_command {rev} {l} (spells w) e = subst (SpellsCommand rev l) (ap (λ a. a.command) e) w
+says_command {rev} {l} (spells w) e = subst (SpellsCommand rev l) (said_same e) w
 says_command (formless h) e = absurd (not_refused e refl)
 says_command (ranged_out w h) e = absurd (not_refused e refl)
 
@@ -123,7 +132,7 @@ pub command_iff : {rev : Revision} (l : List ℕ) (c : Command) → (command_of 
 command_iff l c = (λ e. says_command (command_sound l) e, command_read)
 
 pub one_command : {rev : Revision} {l : List ℕ} {c d : Command} → SpellsCommand rev l c → SpellsCommand rev l d → c ≡ d
-one_command v w = ap (λ a. a.command) (sym (command_read v) ∙ command_read w)
+one_command v w = said_same (sym (command_read v) ∙ command_read w)
 
 -- ---- a line of a file
 

@@ -5,6 +5,7 @@ use mathlib.Core.List.{[], ◌∷◌, ◌++◌}
 use Prim.Native.Nat.{ℕ, ◌+◌, ◌≤◌}
 use native.Mathlib.Omega.{arith}
 use lib.ListN.{length}
+use Rattle.std.specs.Prelude.{Some, None, Ok, Err}
 use Rattle.runs.specs.Machine.{Row, last_of, Follows, StepBy}
 use Rattle.runs.proofs.Chains.{follows_head, follows_tail, follows_first, follows_rest}
 use Rattle.runs.proofs.Edit.{last_append}
@@ -13,8 +14,7 @@ use Rattle.tools.specs.declared.Tools.{Tools}
 use Rattle.rules.specs.declared.Command.{Command}
 use Rattle.rules.specs.declared.State.{State}
 use Rattle.rules.specs.declared.Hole.{Hole}
-use Rattle.rules.specs.declared.HoleAnswer.{HoleAnswer}
-use Rattle.rules.specs.declared.HoleAnswer.TheVariants.{Makes, Nothing, Refused}
+use Rattle.rules.specs.Results.{HoleAnswer}
 use Rattle.rules.specs.Numbers.{max_tool}
 use Rattle.rules.specs.Ranges.{StateOk}
 use Rattle.tools.specs.Set.{has}
@@ -64,9 +64,9 @@ start_held = (λ n. absurd (n refl), λ d. absurd (omega arith))
 -- ---- a hole
 
 abbrev Known : Tools → HoleAnswer → Type 0
-Known ts (Makes h) = has ts h.tool ≡ true
-Known ts Nothing = Unit {0}
-Known ts (Refused e i) = Unit {0}
+Known ts (Ok (Some h)) = has ts h.tool ≡ true
+Known ts (Ok None) = Unit {0}
+Known ts (Err r) = Unit {0}
 
 hole_known : {p q : State} {c : Command} (from : Point) → Held p → Takes p c q → Known q.tools (hole_of from c q)
 unfolding hole_of
@@ -89,7 +89,7 @@ hole_known from k (m30 h) = tt
 
 -- the tool of a row's hole has a diameter among the rows
 pub hole_diameter : (os : Rows) (r : Row Command State) (ys : Rows) → Follows (StepBy taken) start 0 (os ++ (r ∷ ys)) → RowsOk (os ++ (r ∷ ys))
-    → (h : Hole) → h.tool ≤ max_tool → hole_of (last_of start os).at r.command r.state ≡ Makes h
+    → (h : Hole) → h.tool ≤ max_tool → hole_of (last_of start os).at r.command r.state ≡ Ok (Some h)
     → HasDiameter h.tool (os ++ (r ∷ ys))
 unfolding last_of
 hole_diameter os r ys f ok h low e =

@@ -5,6 +5,7 @@ use mathlib.Core.Bool.{Bool, true, false, not, false≢true}
 use Prim.Native.Nat.{ℕ, ◌+◌, ◌*◌}
 use borrow.Author.Tests.{eq-eqb, ne_eqb, eqb-true, eqb-false, lt-ltb, ltb-true, le-leb, leb-true, not-true, not-false}
 use lib.Dec.{eqb, ltb, leb}
+use Rattle.std.specs.Prelude.{Result, Ok, Err}
 use Rattle.lists.proofs.Choice.{both}
 use Rattle.points.specs.declared.Point.{Point}
 use Rattle.points.specs.declared.Arc.{Arc}
@@ -12,8 +13,6 @@ use Rattle.rules.specs.declared.Command.{Command}
 use Rattle.rules.specs.declared.Command.TheVariants.{Comment, M48, Metric, Inch, Declare, Percent, G05, G00, Select, Hit, M15, M16, G01, G02, G03, M30}
 use Rattle.rules.specs.declared.State.{State}
 use Rattle.rules.specs.declared.Refusal.{Refusal}
-use Rattle.rules.specs.declared.Next.{Next}
-use Rattle.rules.specs.declared.Next.TheVariants.{To, No}
 use Rattle.rules.specs.Refusals.{wrong_phase, wrong_motion, declared_already, not_declared, no_tool_selected, impossible_arc}
 use Rattle.tools.specs.Set.{has}
 use Rattle.points.specs.Points.{same_point, square_of_distance, square, last_unit, is_possible}
@@ -52,7 +51,7 @@ read_possible s a e =
 
 -- ---- what may come is taken
 
-step_read : {s q : State} {c : Command} → Takes s c q → step s c ≡ To q
+step_read : {s q : State} {c : Command} → Takes s c q → step s c ≡ Ok q
 unfolding step need
 step_read {s} (comment h) = rw (lt-ltb s.phase over h)
 step_read {s} (m48 h) = rw (eq-eqb s.phase before_m48 h)
@@ -73,7 +72,7 @@ step_read {s} (m30 h) = rw (eq-eqb s.phase body h.in_body, ne_eqb s.motion tool_
 
 -- ---- what may not come is refused
 
-phase_read : (s : State) (c : Command) → (InItsPhase c s.phase → ⊥) → step s c ≡ No wrong_phase
+phase_read : (s : State) (c : Command) → (InItsPhase c s.phase → ⊥) → step s c ≡ Err wrong_phase
 unfolding step need
 phase_read s Comment h = rw (not_so (ltb s.phase over) (λ e. h (ltb-true s.phase over e)))
 phase_read s M48 h = rw (ne_eqb s.phase before_m48 h)
@@ -96,7 +95,7 @@ phase_read s M30 h = rw (ne_eqb s.phase body h)
 is_down : (m : ℕ) → ((m ≡ tool_down → ⊥) → ⊥) → eqb m tool_down ≡ true
 is_down m h = so (eqb m tool_down) (λ e. h (eqb-false m tool_down e))
 
-motion_read : (s : State) (c : Command) → InItsPhase c s.phase → (InItsMotion c s.motion → ⊥) → step s c ≡ No wrong_motion
+motion_read : (s : State) (c : Command) → InItsPhase c s.phase → (InItsMotion c s.motion → ⊥) → step s c ≡ Err wrong_motion
 unfolding step need
 motion_read s Comment p h = absurd (h tt)
 motion_read s M48 p h = absurd (h tt)
@@ -118,7 +117,7 @@ motion_read s M30 p h = rw (eq-eqb s.phase body p, is_down s.motion h)
 impossible_read : (s : Point) (a : Arc) → (Possible s a → ⊥) → is_possible s a ≡ false
 impossible_read s a h = not_so (is_possible s a) (λ e. h (read_possible s a e))
 
-step_refuses : {s : State} {c : Command} {e : Refusal} → Untaken s c e → step s c ≡ No e
+step_refuses : {s : State} {c : Command} {e : Refusal} → Untaken s c e → step s c ≡ Err e
 unfolding step need
 step_refuses {s} (in_wrong_phase {c = c} h) = phase_read s c h
 step_refuses {s} (in_wrong_motion {c = c} p h) = motion_read s c p h
@@ -131,37 +130,37 @@ step_refuses {s} (g03_impossible {a = a} h w) = rw (eq-eqb s.phase body h.in_bod
 
 -- ---- and the other way: what a step says is so
 
-need_all : (P : Next → Type 0) (t : Bool) (e : Refusal) {x : Next} → (t ≡ false → P (No e)) → (t ≡ true → P x) → P (need t e x)
+need_all : (P : Result State Refusal → Type 0) (t : Bool) (e : Refusal) {x : (Result State Refusal)} → (t ≡ false → P (Err e)) → (t ≡ true → P x) → P (need t e x)
 unfolding need
 need_all P true e z g = g refl
 need_all P false e z g = z refl
 
-abbrev Says : State → Command → Next → Type 0
-Says s c (To q) = Takes s c q
-Says s c (No e) = Untaken s c e
+abbrev Says : State → Command → Result State Refusal → Type 0
+Says s c (Ok q) = Takes s c q
+Says s c (Err e) = Untaken s c e
 
 -- the tests that more than one command has
-module _ (s : State) (P : Next → Type 0) {x : Next} where
-  in_phase_lem : (n : ℕ) → ((s.phase ≡ n → ⊥) → P (No wrong_phase)) → (s.phase ≡ n → P x) → P (need (phase_is n s) wrong_phase x)
+module _ (s : State) (P : Result State Refusal → Type 0) {x : (Result State Refusal)} where
+  in_phase_lem : (n : ℕ) → ((s.phase ≡ n → ⊥) → P (Err wrong_phase)) → (s.phase ≡ n → P x) → P (need (phase_is n s) wrong_phase x)
   in_phase_lem n z g = need_all P (phase_is n s) wrong_phase (λ e. z (eqb-false s.phase n e)) (λ e. g (eqb-true s.phase n e))
 
-  selected : (s.tool ≡ no_tool → P (No no_tool_selected)) → ((s.tool ≡ no_tool → ⊥) → P x) → P (need (is_selected s) no_tool_selected x)
+  selected : (s.tool ≡ no_tool → P (Err no_tool_selected)) → ((s.tool ≡ no_tool → ⊥) → P x) → P (need (is_selected s) no_tool_selected x)
   selected z g =
       need_all P (is_selected s) no_tool_selected (λ t. z (eqb-true s.tool no_tool (not-false (eqb s.tool no_tool) t)))
       (λ t. g (eqb-false s.tool no_tool (not-true (eqb s.tool no_tool) t)))
 
-  possible : (a : Arc) → ((Possible s.at a → ⊥) → P (No impossible_arc)) → (Possible s.at a → P x) → P (need (is_possible s.at a) impossible_arc x)
+  possible : (a : Arc) → ((Possible s.at a → ⊥) → P (Err impossible_arc)) → (Possible s.at a → P x) → P (need (is_possible s.at a) impossible_arc x)
   possible a z g =
       need_all P (is_possible s.at a) impossible_arc (λ t. z (λ w. false≢true (sym t ∙ possible_read w))) (λ t. g (read_possible s.at a t))
 
-module _ (s : State) (P : Next → Type 0) (phase : (s.phase ≡ body → ⊥) → P (No wrong_phase)) {x : Next} where
-  in_motion_lem : (n : ℕ) → (s.phase ≡ body → (s.motion ≡ n → ⊥) → P (No wrong_motion)) → (Moving n s → P x)
+module _ (s : State) (P : Result State Refusal → Type 0) (phase : (s.phase ≡ body → ⊥) → P (Err wrong_phase)) {x : (Result State Refusal)} where
+  in_motion_lem : (n : ℕ) → (s.phase ≡ body → (s.motion ≡ n → ⊥) → P (Err wrong_motion)) → (Moving n s → P x)
       → P (need (phase_is body s) wrong_phase (need (motion_is n s) wrong_motion x))
   in_motion_lem n z g =
       in_phase_lem s P body phase
       (λ p. need_all P (motion_is n s) wrong_motion (λ m. z p (eqb-false s.motion n m)) (λ m. g (record { in_body = p; motion = eqb-true s.motion n m })))
 
-  free : (s.phase ≡ body → ((s.motion ≡ tool_down → ⊥) → ⊥) → P (No wrong_motion)) → (Free s → P x)
+  free : (s.phase ≡ body → ((s.motion ≡ tool_down → ⊥) → ⊥) → P (Err wrong_motion)) → (Free s → P x)
       → P (need (phase_is body s) wrong_phase (need (not (motion_is tool_down s)) wrong_motion x))
   free z g =
       in_phase_lem s P body phase
@@ -198,8 +197,8 @@ step_sound s (G03 a) =
     in_motion_lem s (Says s (G03 a)) (λ n. in_wrong_phase n) tool_down (λ p n. in_wrong_motion p n) (λ h. possible s (Says s (G03 a)) a (λ w. g03_impossible h w) (λ w. g03 h w))
 step_sound s M30 = free s (Says s M30) (λ n. in_wrong_phase n) (λ p n. in_wrong_motion p n) (λ h. m30 h)
 
-pub step_iff : (s : State) (c : Command) (q : State) → (step s c ≡ To q → Takes s c q) × (Takes s c q → step s c ≡ To q)
+pub step_iff : (s : State) (c : Command) (q : State) → (step s c ≡ Ok q → Takes s c q) × (Takes s c q → step s c ≡ Ok q)
 step_iff s c q = (λ e. subst (Says s c) e (step_sound s c), step_read)
 
-pub refused_iff : (s : State) (c : Command) (e : Refusal) → (step s c ≡ No e → Untaken s c e) × (Untaken s c e → step s c ≡ No e)
+pub refused_iff : (s : State) (c : Command) (e : Refusal) → (step s c ≡ Err e → Untaken s c e) × (Untaken s c e → step s c ≡ Err e)
 refused_iff s c e = (λ d. subst (Says s c) d (step_sound s c), step_refuses)

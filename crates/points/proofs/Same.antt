@@ -1,17 +1,15 @@
--- The tests of equality are true exactly where the numbers and points are equal; and what the machine's `==` of two signed
--- numbers, which compares their bits, says of them.
-use mathlib.Core.Path.{◌≡◌, refl, sym, ap, ◌∙◌}
-use mathlib.Core.Bool.{Bool, true, false, false≢true}
-use native.Mathlib.Decide.{ℕ_discrete}
+-- The tests of equality are true exactly where the numbers and points are equal, and say what `==` says.
+use mathlib.Core.Path.{◌≡◌, refl, ap}
+use mathlib.Core.Bool.{true, false≢true}
 use lib.IntN.{ℤ, pos, negsuc}
-use lib.Dec.{eqb}
-use mir.Syntax.{Width}
-use mir.Val.{SFits, of_z}
-use borrow.Author.Tests.{eqb-true, eq-eqb, ne_eqb}
+use borrow.Author.Tests.{eqb-true, eq-eqb}
+use Rattle.std.specs.Prelude.{◌&&◌}
+use Rattle.std.specs.Bool.{one_answer}
+use Rattle.std.specs.Cmp.{signed_Decides}
+use Rattle.std.specs.Ordering.{int_eq}
 use Rattle.lists.proofs.Choice.{both}
 use Rattle.points.specs.declared.Point.{Point}
 use Rattle.points.specs.Points.{same_number, same_point}
-use Rattle.points.proofs.Signed.{of_z-inj}
 
 -- ---- numbers
 
@@ -30,24 +28,9 @@ same_number_refl (negsuc a) = eq-eqb a a refl
 pub same_number_iff : (a b : ℤ) → (same_number a b ≡ true → a ≡ b) × (a ≡ b → same_number a b ≡ true)
 same_number_iff a b = (same_number_true a b, λ e. rw e (same_number_refl b))
 
-is_false : (t : Bool) → (t ≡ true → ⊥) → t ≡ false
-is_false true h = absurd (h refl)
-is_false false h = refl
-
--- ---- their bits
-
-pub bits_same : (w : Width) (a b : ℤ) → SFits w a → SFits w b → of_z w a ≡ of_z w b → same_number a b ≡ true
-bits_same w a b p q e = (same_number_iff a b).1 (of_z-inj w a b p q e)
-
-pub bits_differ : (w : Width) (a b : ℤ) → (of_z w a ≡ of_z w b → ⊥) → same_number a b ≡ false
-bits_differ w a b n = is_false (same_number a b) (λ e. n (ap (of_z w) (same_number_true a b e)))
-
-pub bits_test : (w : Width) (a b : ℤ) → SFits w a → SFits w b → eqb (of_z w a) (of_z w b) ≡ same_number a b
-bits_test w a b p q = by (ℕ_discrete (of_z w a) (of_z w b))
-  where
-    by : Dec (of_z w a ≡ of_z w b) → eqb (of_z w a) (of_z w b) ≡ same_number a b
-    by (yes e) = eq-eqb (of_z w a) (of_z w b) e ∙ sym (bits_same w a b p q e)
-    by (no n) = ne_eqb (of_z w a) (of_z w b) n ∙ sym (bits_differ w a b n)
+-- what `==` says of two signed numbers
+same_number_eq : (a b : ℤ) → int_eq a b ≡ same_number a b
+same_number_eq a b = one_answer _ _ (signed_Decides a b) (same_number_iff a b)
 
 -- ---- points
 
@@ -65,3 +48,8 @@ same_point_refl p = simp (same_number_refl p.x, same_number_refl p.y)
 
 pub same_point_iff : (p q : Point) → (same_point p q ≡ true → p ≡ q) × (p ≡ q → same_point p q ≡ true)
 same_point_iff p q = (same_point_true p q, λ e. rw e (same_point_refl q))
+
+-- what `==` says of two points
+pub same_point_eq : (p q : Point) → (int_eq p.x q.x && int_eq p.y q.y) ≡ same_point p q
+unfolding same_point
+same_point_eq p q = simp (same_number_eq p.x q.x, same_number_eq p.y q.y)

@@ -5,7 +5,7 @@ ghost use Rattle.std.specs.Prelude.{◌≡◌, ◌+◌, ◌*◌, ◌/◌, ◌≤
 ghost use Rattle.points.specs.Points as S;
 
 /// A place on the board, in millionths of the file's unit.
-#[derive(Clone, Copy)]
+#[derive(Clone, Copy, PartialEq, Eq)]
 pub struct Point {
     pub x: i32,
     pub y: i32,
@@ -24,13 +24,11 @@ const LARGEST: u64 = 4294967295;
 
 impl Point {
     /// Whether two points are one.
+    #[tactic(auto, using(crate::proofs::Same::same_point_eq))]
     pub fn same(self, other: Point) -> bool
         ensures { result ≡ S.same_point self other }
     {
-        if self.x != other.x {
-            return false;
-        }
-        self.y == other.y
+        self == other
     }
 }
 
@@ -39,17 +37,14 @@ pub fn distance(a: i32, b: i32) -> u64
     ensures { (result ≡ nat_abs (a -ℤ b)) × (result ≤ 4294967295) }
 {
     let d = (a as i64) - (b as i64);
-    if d < 0 {
-        return (0 - d) as u64;
-    }
-    d as u64
+    d.unsigned_abs()
 }
 
 /// A number without its sign. It fits 32 bits.
 pub fn size(x: i32) -> u32
     ensures { result ≡ nat_abs x }
 {
-    distance(x, 0) as u32
+    x.unsigned_abs()
 }
 
 fn square_of_difference(a: i32, b: i32) -> u64
@@ -79,10 +74,7 @@ pub fn place_of(decimals: u32) -> u32
 fn last_unit(decimals: u32) -> u64
     ensures { (result ≡ S.last_unit decimals) × (result ≤ 1000000) }
 {
-    if decimals < 3 {
-        return place_of(3) as u64;
-    }
-    place_of(decimals) as u64
+    place_of(decimals.max(3)) as u64
 }
 
 // A quarter of x + y. The sum itself may not fit, so it is taken in quarters.
@@ -121,11 +113,12 @@ impl Arc {
 
     /// Whether there is an arc from a point: the ends differ, and are no further apart than two radii and one unit of the radius's
     /// last written place.
+    #[tactic(auto, using(crate::proofs::Same::same_point_eq), unfolding(crate::specs::Points::is_possible))]
     pub fn is_possible(self, from: Point) -> bool
         ensures { result ≡ S.is_possible from self }
     {
         let to = self.to;
-        if from.same(to) {
+        if from == to {
             return false;
         }
         self.reaches(from)

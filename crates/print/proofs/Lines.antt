@@ -1,10 +1,11 @@
 -- Whole lines: each has room in a block of line_room bytes, and its parts one after the other are the line.
-use mathlib.Core.Path.{◌≡◌, refl, sym, ap}
+use mathlib.Core.Path.{◌≡◌, ap}
 use mathlib.Core.Bool.{Bool, true, false, false≢true}
 use mathlib.Core.List.{List, [], ◌∷◌, ◌++◌}
 use Prim.Native.Nat.{ℕ, ◌+◌, ◌<◌, ◌≤◌}
 use native.Mathlib.Omega.{arith}
-use borrow.Author.Tests.{le-leb, lt-leb}
+use borrow.Author.Tests.{leb-true}
+use Rattle.std.proofs.lemmas.Bool.{and_parts}
 use lib.Dec.{eqb}
 use lib.ListN.{length, length-append}
 use lib.Signed.{mag}
@@ -23,10 +24,6 @@ use Rattle.print.proofs.Tabs.{line_tabbed, none_short, field_short}
 
 -- ---- with room and without
 
-pub nothing_put : (room : Bool) (b l : List ℕ) → room ≡ false → PutIn room b l b 0
-nothing_put true b l e = absurd (false≢true (sym e))
-nothing_put false b l e = record { bytes = refl; count = refl; inside = omega arith }
-
 pub line_put : (room : Bool) {b l b' : List ℕ} {r : ℕ} → room ≡ true → Wrote b 0 l b' r → length l ≤ length b → PutIn room b l b' r
 line_put true e w h = let a = wrote_all (omega arith) w in record { bytes = a.0; count = omega arith; inside = omega arith }
 line_put false e w h = absurd (false≢true e)
@@ -40,24 +37,12 @@ module _ (f : List ℕ) (gs : List (List ℕ)) where
   pub line_length : length (printed_line f gs) ≡ length f + length (tabbed gs) + 1
   line_length = omega (arith, ap length (line_tabbed f gs), length-append f (tabbed gs ++ (LF ∷ [])), length-append (tabbed gs) (LF ∷ []))
 
--- ---- the room of a line of numbers
-
-module _ (b word ns : List ℕ) where
-  pub block_short : length b < line_room → line_fits b word ns ≡ false
-  unfolding line_fits
-  block_short h = rw (lt-leb line_room (length b) h)
-
-  pub word_long : line_room ≤ length b → most_word < length word → line_fits b word ns ≡ false
-  unfolding line_fits
-  word_long h k = rw (le-leb line_room (length b) h, lt-leb (length word) most_word k)
-
-  pub numbers_many : line_room ≤ length b → length word ≤ most_word → most_numbers < length ns → line_fits b word ns ≡ false
-  unfolding line_fits
-  numbers_many h k m = rw (le-leb line_room (length b) h, le-leb (length word) most_word k, lt-leb (length ns) most_numbers m)
-
-  pub all_fit : line_room ≤ length b → length word ≤ most_word → length ns ≤ most_numbers → line_fits b word ns ≡ true
-  unfolding line_fits
-  all_fit h k m = rw (le-leb line_room (length b) h, le-leb (length word) most_word k, le-leb (length ns) most_numbers m)
+-- the room of a line of numbers
+pub fits_says : (b word ns : List ℕ) → line_fits b word ns ≡ true → (line_room ≤ length b) × (length word ≤ most_word) × (length ns ≤ most_numbers)
+unfolding line_fits
+fits_says b word ns e =
+    let p = and_parts _ _ e in
+    let q = and_parts _ _ p.1 in (leb-true _ _ p.0, leb-true _ _ q.0, leb-true _ _ q.1)
 
 -- ---- the length of a hole's fields
 

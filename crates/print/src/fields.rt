@@ -21,10 +21,8 @@ pub(crate) fn put_numbers(b: &mut [u8], at: usize, numbers: &[u64]) -> usize
     ensures { Wrote b.old at (tabbed (decimals numbers.now)) b.new result }
 {
     let mut end = at;
-    let mut i = 0;
-    while i < numbers.len() {
-        end = put_number(b, end, numbers[i]);
-        i += 1;
+    for &n in numbers {
+        end = put_number(b, end, n);
     }
     end
 }
@@ -66,11 +64,9 @@ fn put_letter(b: &mut [u8], at: usize, kind: u32) -> usize
 pub(crate) fn put_hole(b: &mut [u8], at: usize, hole: Hole) -> usize
     ensures { Wrote b.old at (tabbed (hole_fields hole)) b.new result }
 {
-    let start = hole.start;
-    let end = hole.end;
     let letter_end = put_letter(b, at, hole.kind);
-    let tool_end = put_number(b, letter_end, hole.tool as u64);
-    let start_end = put_point(b, tool_end, start);
-    let end_end = put_point(b, start_end, end);
-    put_number(b, end_end, hole.radius as u64)
+    let tool_end = put_number(b, letter_end, u64::from(hole.tool));
+    let start_end = put_point(b, tool_end, hole.start);
+    let end_end = put_point(b, start_end, hole.end);
+    put_number(b, end_end, u64::from(hole.radius))
 }

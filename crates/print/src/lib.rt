@@ -2,7 +2,7 @@
 // for every line.
 #![tactic(auto)]
 
-ghost use Rattle.std.specs.Prelude.{leb, length};
+ghost use Rattle.std.specs.Prelude.{◌≡◌, leb, length};
 ghost use Rattle.rules.specs.Printing.{decimal, printed_line, hole_fields};
 ghost use Rattle.text.specs.Wrote.{Wrote};
 ghost use Rattle.print.specs.Line.{decimals, line_room, PutIn, line_fits};
@@ -38,18 +38,20 @@ pub fn put_hole_line(b: &mut [u8], at: usize, line: usize, hole: Hole) -> usize
     put_byte(b, hole_end, b'\n')
 }
 
+// Whether the block has room for every line, the word is short and the numbers are few.
+#[tactic(auto, unfolding(crate::specs::Line::line_fits))]
+fn has_room(block: &[u8], word: &[u8], numbers: &[u64]) -> bool
+    ensures { result ≡ line_fits block.now word.now numbers.now }
+{
+    LINE_ROOM <= block.len() && word.len() <= MAX_WORD && numbers.len() <= MAX_NUMBERS
+}
+
 /// A line of a word and numbers at the front of a block: how many bytes, or 0 where the block has under 128 bytes, the word over
 /// 32 or there are over four numbers.
 pub fn numbers_line(block: &mut [u8], word: &[u8], numbers: &[u64]) -> usize
     ensures { PutIn (line_fits block.old word.now numbers.now) block.old (printed_line word.now (decimals numbers.now)) block.new result }
 {
-    if block.len() < LINE_ROOM {
-        return 0;
-    }
-    if MAX_WORD < word.len() {
-        return 0;
-    }
-    if MAX_NUMBERS < numbers.len() {
+    if !has_room(block, word, numbers) {
         return 0;
     }
     put_numbers_line(block, 0, word, numbers)

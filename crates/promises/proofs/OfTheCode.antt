@@ -5,13 +5,12 @@ use mathlib.Core.List.{List}
 use Prim.Native.Nat.{ℕ, ◌*◌, ◌≤◌}
 use lib.IntN.{ℤ}
 use lib.ListN.{length, take}
+use Rattle.std.specs.Prelude.{Ok}
 use Rattle.lists.specs.Put.{put_at}
 use Rattle.lists.specs.Exactly.{Exactly}
 use Rattle.rules.specs.declared.Counts.{Counts}
-use Rattle.rules.specs.declared.Answer.{Answer}
-use Rattle.rules.specs.declared.Answer.TheVariants.{Done}
-use Rattle.rules.specs.declared.HoleAnswer.{HoleAnswer}
 use Rattle.rules.specs.declared.Revision.{Revision}
+use Rattle.rules.specs.Results.{Answer, HoleAnswer}
 use Rattle.rules.specs.Numbers.{max_file}
 use Rattle.rules.specs.Rows.{row_width, table_numbers, Good}
 use Rattle.rules.specs.Reading.{Rows, row_of, state_before, read_answer, read_leaves}
@@ -84,14 +83,14 @@ exactly e w = (λ h. w.0 (sym e ∙ h), λ p. e ∙ w.1 p)
 
 module _ (file : List ℕ) (rev : Revision) (table : List ℤ) (answer : Answer) (counts : Counts) (left : List ℤ) (c : ReadCall file rev table answer counts left) where
   accepted : (rs : Rows) → ReadingOf rev file rs → row_width * length rs ≤ length table
-      → (answer ≡ Done (length rs)) × (left ≡ put_at table 0 (table_numbers rs)) × Good left (length rs) rs × (counts ≡ counts_of rs)
+      → (answer ≡ Ok (length rs)) × (left ≡ put_at table 0 (table_numbers rs)) × Good left (length rs) rs × (counts ≡ counts_of rs)
   accepted rs w h =
       let s = read_says c in
       let d = (demand_2.reads rev file table).accepted rs w h in
       let k = (demand_2.reads rev file table).holds (length rs) rs d w in
       (s.0 ∙ d, s.1 ∙ k.numbers, subst (λ (t : List ℤ). Good t (length rs) rs) (sym s.1) k.good, s.2 ∙ counts_own.read rev file table (length rs) rs d k.good)
 
-  holes : (n : ℕ) (rs : Rows) → answer ≡ Done n → ReadingOf rev file rs → (k : ℕ) → 1 ≤ k → k ≤ n → (hole : HoleAnswer) → HoleCall left n k hole
+  holes : (n : ℕ) (rs : Rows) → answer ≡ Ok n → ReadingOf rev file rs → (k : ℕ) → 1 ≤ k → k ≤ n → (hole : HoleAnswer) → HoleCall left n k hole
       → hole ≡ hole_of (state_before rs k).at (row_of rs k).command (row_of rs k).state
   holes n rs e w k a b hole d =
       let s = read_says c in
@@ -112,9 +111,9 @@ module _ (file : List ℕ) (rev : Revision) (table : List ℤ) (answer : Answer)
 -- ---- what was written, read back
 
 read_back : (table : List ℤ) (n : ℕ) (rs : Rows) → Good table n rs → (block : List ℕ) (m : ℕ) (text : List ℕ)
-    → WriteCall table n block (Done m) text → (lent : List ℤ) → row_width * length (without_comments rs) ≤ length lent
+    → WriteCall table n block (Ok m) text → (lent : List ℤ) → row_width * length (without_comments rs) ≤ length lent
     → (rev : Revision) (answer : Answer) (counts : Counts) (left : List ℤ) → ReadCall (take m text) rev lent answer counts left
-    → (answer ≡ Done (length (without_comments rs))) × (left ≡ put_at lent 0 (table_numbers (without_comments rs)))
+    → (answer ≡ Ok (length (without_comments rs))) × (left ≡ put_at lent 0 (table_numbers (without_comments rs)))
 read_back table n rs g block m text c lent h rev answer counts left d =
     let s = write_says c in
     let f = write_done table n block m (sym s.0) in
@@ -132,7 +131,7 @@ read_back table n rs g block m text c lent h rev answer counts left d =
 same_counts : (c : Counts) (a b : Answer) → a ≡ b → {x y u v : Counts} → x ≡ y → u ≡ v → SameCounts c a x u → SameCounts c b y v
 same_counts c a b e {x} {y} {u} {v} p q h = subst₂ (SameCounts c b) p q (subst (λ (z : Answer). SameCounts c z x u) e h)
 
-as_afresh : (file : List ℕ) (rev : Revision) (lent : List ℤ) (n : ℕ) (counts : Counts) (table : List ℤ) → ReadCall file rev lent (Done n) counts table
+as_afresh : (file : List ℕ) (rev : Revision) (lent : List ℤ) (n : ℕ) (counts : Counts) (table : List ℤ) → ReadCall file rev lent (Ok n) counts table
     → (k : ℕ) (w : LineOf file k) (text : List ℕ) → no_line_end text ≡ true → length (edited w text) ≤ max_file
     → (answer_of_edit : Answer) (counts_then : Counts) (after : List ℤ) → EditCall table n k text rev counts answer_of_edit counts_then after
     → (fresh_answer : Answer) (fresh_counts : Counts) (fresh : List ℤ) → ReadCall (edited w text) rev table fresh_answer fresh_counts fresh
@@ -154,7 +153,7 @@ as_afresh file rev lent n counts table c k w text hl hb answer_of_edit counts_th
 -- ---- the table's own counts
 
 edited_own : (table : List ℤ) (n : ℕ) (rs : Rows) → Good table n rs → (line : ℕ) (text : List ℕ) (rev : Revision) (m : ℕ) (counts_remaining : Counts) (left : List ℤ)
-    → EditCall table n line text rev (counts_of rs) (Done m) counts_remaining left → (ss : Rows) × (Good left n ss × (counts_remaining ≡ counts_of ss))
+    → EditCall table n line text rev (counts_of rs) (Ok m) counts_remaining left → (ss : Rows) × (Good left n ss × (counts_remaining ≡ counts_of ss))
 edited_own table n rs g line text rev m counts_remaining left c =
     let s = edit_says c in
     let w = good_stays.stays rev table n (record { rows = rs; good = g }) line text (counts_of rs) m (sym s.0) in
@@ -163,30 +162,30 @@ edited_own table n rs g line text rev m counts_remaining left c =
 -- ---- put back, and in either order
 
 accepted_edit : {table : List ℤ} {n line : ℕ} {text : List ℕ} {rev : Revision} {counts : Counts} {m : ℕ} {counts_remaining : Counts} {left : List ℤ}
-    → EditCall table n line text rev counts (Done m) counts_remaining left → EditsTo rev n table counts line text m left counts_remaining
+    → EditCall table n line text rev counts (Ok m) counts_remaining left → EditsTo rev n table counts line text m left counts_remaining
 accepted_edit c = let s = edit_says c in record { answer = sym s.0; table = sym s.1; counts = sym s.2 }
 
 put_back : (table : List ℤ) (n : ℕ) (rs : Rows) → Good table n rs → (line : ℕ) (text : List ℕ) (rev : Revision) (m : ℕ) (counts_remaining : Counts) (left : List ℤ)
-    → EditCall table n line text rev (counts_of rs) (Done m) counts_remaining left → (back : List ℕ) → SpellsLine rev back (row_of rs line).command
+    → EditCall table n line text rev (counts_of rs) (Ok m) counts_remaining left → (back : List ℕ) → SpellsLine rev back (row_of rs line).command
     → (answer : Answer) (counts_back : Counts) (former : List ℤ) → EditCall left n line back rev counts_remaining answer counts_back former
-    → (answer ≡ Done m) × (former ≡ table) × (counts_back ≡ counts_of rs)
+    → (answer ≡ Ok m) × (former ≡ table) × (counts_back ≡ counts_of rs)
 put_back table n rs g line text rev m counts_remaining left c back w answer counts_back former d =
     let e = undo.undo rev table n rs g line text m left counts_remaining (accepted_edit c) back w in
     let s = edit_says d in
     (s.0 ∙ e.answer, s.1 ∙ e.table, s.2 ∙ e.counts)
 
 own_line_back : (file : List ℕ) (rev : Revision) (lent : List ℤ) (n : ℕ) (counts : Counts) (table : List ℤ)
-    → ReadCall file rev lent (Done n) counts table → (k : ℕ) (w : LineOf file k) (text : List ℕ) (m : ℕ) (counts_remaining : Counts) (left : List ℤ)
-    → EditCall table n k text rev counts (Done m) counts_remaining left
+    → ReadCall file rev lent (Ok n) counts table → (k : ℕ) (w : LineOf file k) (text : List ℕ) (m : ℕ) (counts_remaining : Counts) (left : List ℤ)
+    → EditCall table n k text rev counts (Ok m) counts_remaining left
     → (answer : Answer) (counts_back : Counts) (former : List ℤ) → EditCall left n k w.line rev counts_remaining answer counts_back former
-    → (answer ≡ Done m) × (former ≡ table) × (counts_back ≡ counts)
+    → (answer ≡ Ok m) × (former ≡ table) × (counts_back ≡ counts)
 own_line_back file rev lent n counts table c k w text m counts_remaining left d answer counts_back former b =
     let s = read_says c in
     let t = good_exactly.read_good rev table n (record { file = file; lent = lent; answer = sym s.0; table = sym s.1 }) in
     let g : Good (read_leaves rev file lent) n t.rows = subst (λ (u : List ℤ). Good u n t.rows) s.1 t.good in
     let own : counts ≡ counts_of t.rows = s.2 ∙ counts_own.read rev file lent n t.rows (sym s.0) g in
     let e = put_back table n t.rows t.good k text rev m counts_remaining left
-    (subst (λ (z : Counts). EditCall table n k text rev z (Done m) counts_remaining left) own d)
+    (subst (λ (z : Counts). EditCall table n k text rev z (Ok m) counts_remaining left) own d)
     w.line (undo_text.own_line rev file lent n t.rows (sym s.0) g k w) answer counts_back former b in
     (e.0, e.1, e.2 ∙ sym own)
 

@@ -22,6 +22,12 @@ use Rattle.rules.proofs.forbidden_byte.Kinds as forbidden_byte_kinds
 use Rattle.rules.proofs.forbidden_byte.Reads as forbidden_byte_reads
 use Rattle.rules.proofs.out_of_range.Kinds as out_of_range_kinds
 use Rattle.rules.proofs.out_of_range.Reads as out_of_range_reads
+use Rattle.rules.proofs.Refusal.number.Kinds as refusal_number_kinds
+use Rattle.rules.proofs.Refusal.number.Reads as refusal_number_reads
+use Rattle.rules.proofs.Refusal.column.Kinds as refusal_column_kinds
+use Rattle.rules.proofs.Refusal.column.Reads as refusal_column_reads
+use Rattle.rules.proofs.Refusal.at.Kinds as refusal_at_kinds
+use Rattle.rules.proofs.Refusal.at.Reads as refusal_at_reads
 use Rattle.rules.proofs.State.new.Kinds as state_new_kinds
 use Rattle.rules.proofs.State.new.Reads as state_new_reads
 use Rattle.rules.proofs.State.step.Kinds as state_step_kinds
@@ -177,6 +183,15 @@ forbidden_byte_lem κs a x y e f p q = same p q
 
 pub out_of_range : OneAnswer 0 out_of_range_kinds.ps out_of_range_kinds.r out_of_range_reads.Post
 out_of_range κs a x y e f p q = same p q
+
+pub refusal_number : OneAnswer 0 refusal_number_kinds.ps refusal_number_kinds.r refusal_number_reads.Post
+refusal_number κs a x y e f p q = same p q
+
+pub refusal_column : OneAnswer 0 refusal_column_kinds.ps refusal_column_kinds.r refusal_column_reads.Post
+refusal_column κs a x y e f p q = same p q
+
+pub refusal_at : OneAnswer 0 refusal_at_kinds.ps refusal_at_kinds.r refusal_at_reads.Post
+refusal_at κs a x y e f p q = same p q
 
 pub tools_has : OneAnswer 0 tools_has_kinds.ps tools_has_kinds.r tools_has_reads.Post
 tools_has κs a x y e f p q = same p q

@@ -4,9 +4,8 @@ use contract.Lifetimes.{Lfts}
 use borrow.Fn.Kinds.{Dens, ended_of}
 use denote.Triple.Clauses.{AtExit}
 use Rattle.rules.specs.declared.Revision.{Revision}
-use Rattle.rules.specs.declared.Answer.{Answer}
 use Rattle.rules.specs.declared.Counts.{Counts}
-use Rattle.rules.specs.declared.HoleAnswer.{HoleAnswer}
+use Rattle.rules.specs.Results.{Answer, HoleAnswer}
 use Rattle.reader.proofs.read.Kinds as read_kinds
 use Rattle.reader.proofs.read.Reads as read_reads
 use Rattle.editor.proofs.edit.Kinds as edit_kinds

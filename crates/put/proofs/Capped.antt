@@ -1,15 +1,9 @@
 -- A row in range is written as its own numbers: none of them is capped.
-use mathlib.Core.Path.{◌≡◌, refl, sym, ap, ap₂, ◌∙◌}
-use mathlib.Core.List.{List, ◌∷◌}
+use mathlib.Core.Path.{◌≡◌, refl, ap, ap₂}
 use Prim.Native.Nat.{ℕ, ◌<◌, ◌≤◌}
 use native.Mathlib.Omega.{arith}
 use borrow.Author.Tests.{le-leb, lt-leb}
-use lib.IntN.{ℤ, pos}
-use mir.Syntax.{w32}
-use mir.Val.{to_z, of_z}
-use mir.Facts.{to_z_pos}
 use Rattle.points.specs.declared.Arc.{Arc}
-use Rattle.points.proofs.Signed.{Signed, read_back}
 use Rattle.rules.specs.declared.Command.{Command}
 use Rattle.rules.specs.declared.Command.TheVariants.{Comment, M48, Metric, Inch, Declare, Percent, G05, G00, Select, Hit, M15, M16, G01, G02, G03, M30}
 use Rattle.rules.specs.declared.State.{State}
@@ -24,13 +18,6 @@ capped_small n h = rw (le-leb n max_signed h)
 pub capped_large : (n : ℕ) → max_signed < n → capped n ≡ max_signed
 unfolding capped
 capped_large n h = rw (lt-leb n max_signed h)
-
--- the machine's number of n
-pub signed_small : (n : ℕ) → n ≤ max_signed → to_z w32 n ≡ pos (capped n)
-signed_small n h = to_z_pos w32 {n = n} (omega arith) ∙ ap pos (sym (capped_small n h))
-
-pub signed_large : (n : ℕ) → max_signed < n → to_z w32 max_signed ≡ pos (capped n)
-signed_large n h = ap pos (sym (capped_large n h))
 
 capped_arc_lem : (a : Arc) → ArcOk a → capped_arc a ≡ a
 capped_arc_lem a h = λ i. record { to = a.to; radius = capped_small a.radius (omega arith) i; decimals = capped_small a.decimals (omega arith) i }
@@ -75,9 +62,3 @@ capped_state_lem s h =
 pub capped_row : (c : Command) (s : State) → CommandOk c → StateOk s → capped_numbers c s ≡ row_numbers (record { command = c; state = s })
 unfolding capped_numbers
 capped_row c s h k = rw (capped_command_lem c h, capped_state_lem s k)
-
--- ---- numbers through locals
-
--- a list of signed numbers, each read back, one more at its head, which is known to be x
-pub back∷ : (z : ℤ) {x : ℤ} {xs ys : List ℤ} → Signed z → z ≡ x → xs ≡ ys → to_z w32 (of_z w32 z) ∷ xs ≡ x ∷ ys
-back∷ z h e f = ap₂ ◌∷◌ (read_back z h ∙ e) f

@@ -1,4 +1,3 @@
 pub mod Capped
 pub mod Puts
 pub mod PutFound
-pub mod Straight

@@ -9,6 +9,7 @@ use borrow.Author.Tests.{leb-true, leb-false}
 use lib.Dec.{leb}
 use lib.IntN.{ℤ}
 use lib.ListN.{length, take, drop}
+use Rattle.rules.specs.Results.{row_found}
 use Rattle.lists.specs.Put.{put_at}
 use Rattle.lists.proofs.Put.{put_at_lem}
 use Rattle.runs.specs.Machine.{Row}
@@ -16,7 +17,6 @@ use Rattle.points.specs.declared.Arc.{Arc}
 use Rattle.rules.specs.declared.Command.{Command}
 use Rattle.rules.specs.declared.Command.TheVariants.{Comment, M48, Metric, Inch, Declare, Percent, G05, G00, Select, Hit, M15, M16, G01, G02, G03, M30}
 use Rattle.rules.specs.declared.State.{State}
-use Rattle.rules.specs.declared.Looked.TheVariants.{Holds}
 use Rattle.rules.specs.Numbers.{max_number, max_tool, max_places}
 use Rattle.rules.specs.State.{over, inch_unit, tool_down}
 use Rattle.tools.specs.Set.{max_word}
@@ -91,7 +91,7 @@ uncapped_state s h =
     }
 
 pub put_found : (t : List ℤ) (i : ℕ) (c d : Command) (s q : State) → row_width * i + row_width ≤ length t
-    → look_of (take row_width (drop (row_width * i) (put_row t i c s))) ≡ Holds d q → (d ≡ c) × (q ≡ s)
+    → look_of (take row_width (drop (row_width * i) (put_row t i c s))) ≡ row_found d q → (d ≡ c) × (q ≡ s)
 unfolding capped_numbers
 put_found t i c d s q h e =
     let n : length (capped_numbers c s) ≡ row_width = row_length (record { command = capped_command c; state = capped_state s }) in

@@ -5,10 +5,11 @@ use mathlib.Core.List.{List, []}
 use Prim.Native.Nat.{ℕ, suc, ◌+◌, ◌-◌, ◌*◌, ◌<◌, ◌≤◌}
 use native.Mathlib.Omega.{arith}
 use native.Mathlib.Decide.{dec_lt}
-use borrow.Author.Tests.{eq-eqb, ne_eqb}
 use lib.Dec.{ltb}
 use lib.IntN.{ℤ}
 use lib.ListN.{length, take, drop}
+use Rattle.rules.specs.Results.{refused_at}
+use Rattle.std.specs.Prelude.{Result, Ok, Err}
 use Rattle.lists.proofs.Put.{put_none}
 use Rattle.runs.specs.Machine.{yields, stops, Verdict, accepted, refused, before, run}
 use Rattle.runs.specs.Machine as M
@@ -16,9 +17,6 @@ use Rattle.rules.specs.declared.Command.{Command}
 use Rattle.rules.specs.declared.State.{State}
 use Rattle.rules.specs.declared.Refusal.{Refusal}
 use Rattle.rules.specs.declared.LineAnswer.{LineAnswer}
-use Rattle.rules.specs.declared.Next.{Next}
-use Rattle.rules.specs.declared.Next.TheVariants.{To, No}
-use Rattle.rules.specs.declared.Answer.TheVariants.{Done, Refused}
 use Rattle.rules.specs.declared.Revision.{Revision}
 use Rattle.rules.specs.Refusals.{ends_too_soon}
 use Rattle.rules.specs.Numbers.{max_lines}
@@ -39,21 +37,21 @@ use Rattle.reader.specs.Parts.{told_from, left_from, LinesRead}
 -- ---- what a line says
 
 module _ (rev : Revision) (i : ℕ) (l : Line) {a : LineAnswer} (ha : a ≡ answer_in rev i l) where
-  says_no_lem : (a.refusal.number ≡ 0 → ⊥) → command_in rev i l ≡ stops a.refusal
+  says_no_lem : (f : Refusal) → a.command ≡ Err f → command_in rev i l ≡ stops f
   unfolding command_in
-  says_no_lem e = rw (← ha, ne_eqb a.refusal.number 0 e)
+  says_no_lem f e = rw (← ha, e)
 
-  module _ (e : a.refusal.number ≡ 0) where
-    says_it : command_in rev i l ≡ yields a.command
+  module _ (c : Command) (e : a.command ≡ Ok c) where
+    says_it : command_in rev i l ≡ yields c
     unfolding command_in
-    says_it = rw (← ha, eq-eqb a.refusal.number 0 e)
+    says_it = rw (← ha, e)
 
     -- a line that says a command is one of the first thousand
     counts : i ≤ max_lines
     counts = go (dec_lt max_lines i)
       where
         go : Dec (max_lines < i) → i ≤ max_lines
-        go (yes h) = absurd (let z : ◌≡◌ {A = ℕ} 2 0 = ap (λ (b : LineAnswer). b.refusal.number) (too_many rev i l.bytes l.ended h ∙ sym ha) ∙ e in omega arith)
+        go (yes h) = absurd (let z : ◌≡◌ {A = ℕ} 0 1 = cc (ap (λ (b : LineAnswer). b.command) (too_many rev i l.bytes l.ended h ∙ sym ha) ∙ e) in omega arith)
         go (no h) = omega arith
 
 -- ---- the lines from a place on: end is where the first of them has its LF, or the file's end
@@ -72,11 +70,11 @@ module _ (rev : Revision) (s : List ℕ) (at : ℕ) (p : State) (n : ℕ) where
     line_refused f e = rw (lines_at s at end he h, e)
 
     module _ (c : Command) (e : command_in rev (n + 1) (line_at s at end) ≡ yields c) where
-      step_refused : (f : Refusal) → step p c ≡ No f → run_from rev p (lines_of (drop at s)) n ≡ refused f (n + 1)
+      step_refused : (f : Refusal) → step p c ≡ Err f → run_from rev p (lines_of (drop at s)) n ≡ refused f (n + 1)
       unfolding run
       step_refused f w = rw (lines_at s at end he h, e, w)
 
-      step_taken : (q : State) → step p c ≡ To q
+      step_taken : (q : State) → step p c ≡ Ok q
           → run_from rev p (lines_of (drop at s)) n ≡ before (record { command = c; state = q }) (run_from rev q (lines_of (drop (end + 1) s)) (n + 1))
       unfolding run
       step_taken q w = rw (lines_at s at end he h, e, w)
@@ -96,51 +94,48 @@ left_before t n c q cok sok h (refused e i) = refl
 
 pub record Going (rev : Revision) (s : List ℕ) (t₀ t : List ℤ) (p : State) (n at : ℕ) : Type 0 where
   pub count : n ≤ max_lines
-  pub room : length t ≡ length t₀
   pub ok : StateOk p
   pub told : told_from n (run_from rev p (lines_of (drop at s)) n) ≡ told_from 0 (run_of rev (lines_of s))
   pub left : left_from t n (run_from rev p (lines_of (drop at s)) n) ≡ left_from t₀ 0 (run_of rev (lines_of s))
 
-pub going_start : {rev : Revision} (s : List ℕ) (t : List ℤ) → Going rev s t t start 0 0
+pub going_start : {rev : Revision} (s : List ℕ) (t : List ℤ) {p : State} → p ≡ start → Going rev s t t p 0 0
 unfolding run_of
-going_start s t = record { count = omega arith; room = refl; ok = start_ok; told = refl; left = refl }
+going_start s t e = rw e (record { count = omega arith; ok = start_ok; told = refl; left = refl })
 
 module _ {rev : Revision} (s : List ℕ) (t₀ t : List ℤ) (p : State) (n at : ℕ) (g : Going rev s t₀ t p n at) where
   -- where the run from here refuses, the whole does
-  refuses : (f : Refusal) (i : ℕ) → run_from rev p (lines_of (drop at s)) n ≡ refused f i → LinesRead rev s t₀ (Refused f i) t
+  refuses : (f : Refusal) (i : ℕ) → run_from rev p (lines_of (drop at s)) n ≡ refused f i → LinesRead rev s t₀ (refused_at f i) t
   refuses f i e = record { answer = ap (told_from n) (sym e) ∙ g.told; block = tt }
 
-  pub turn_ended : length s ≤ at → {b : Bool} → b ≡ has_ended p → b ≡ true → LinesRead rev s t₀ (Done n) t
+  pub turn_ended : length s ≤ at → {b : Bool} → b ≡ has_ended p → b ≡ true → LinesRead rev s t₀ (Ok n) t
   unfolding table_numbers
   turn_ended h e w =
       let d : run_from rev p (lines_of (drop at s)) n ≡ accepted [] = lines_over rev s at p n h ∙ rw (sym e ∙ w) in
       let a : n + 0 ≡ n = omega arith in
       record { answer = rw a at (ap (told_from n) (sym d) ∙ g.told); block = (g.count, sym (put_none t (row_width * n)) ∙ ap (left_from t n) (sym d) ∙ g.left) }
 
-  pub turn_short : length s ≤ at → {b : Bool} → b ≡ has_ended p → b ≡ false → LinesRead rev s t₀ (Refused ends_too_soon (n + 1)) t
+  pub turn_short : length s ≤ at → {b : Bool} → b ≡ has_ended p → b ≡ false → LinesRead rev s t₀ (refused_at ends_too_soon (n + 1)) t
   turn_short h e w = refuses ends_too_soon (n + 1) (lines_over rev s at p n h ∙ rw (sym e ∙ w))
 
   module _ (h : at < length s) (end : ℕ) (he : end ≡ at + find_lf (drop at s)) {a : LineAnswer} (ha : a ≡ answer_in rev (n + 1) (line_at s at end)) where
-    pub turn_refused : (a.refusal.number ≡ 0 → ⊥) → LinesRead rev s t₀ (Refused a.refusal (n + 1)) t
-    turn_refused e = refuses a.refusal (n + 1) (line_refused rev s at p n h end he a.refusal (says_no_lem rev (n + 1) (line_at s at end) ha e))
+    pub turn_refused : (f : Refusal) → a.command ≡ Err f → LinesRead rev s t₀ (refused_at f (n + 1)) t
+    turn_refused f e = refuses f (n + 1) (line_refused rev s at p n h end he f (says_no_lem rev (n + 1) (line_at s at end) ha f e))
 
-    module _ (e : a.refusal.number ≡ 0) {x : Next} (xe : x ≡ step p a.command) where
-      pub turn_stopped : (f : Refusal) → x ≡ No f → LinesRead rev s t₀ (Refused f (n + 1)) t
-      turn_stopped f w = refuses f (n + 1) (step_refused rev s at p n h end he a.command (says_it rev (n + 1) (line_at s at end) ha e) f (sym xe ∙ w))
+    module _ (c : Command) (e : a.command ≡ Ok c) {x : Result State Refusal} (xe : x ≡ step p c) where
+      pub turn_stopped : (f : Refusal) → x ≡ Err f → LinesRead rev s t₀ (refused_at f (n + 1)) t
+      turn_stopped f w = refuses f (n + 1) (step_refused rev s at p n h end he c (says_it rev (n + 1) (line_at s at end) ha c e) f (sym xe ∙ w))
 
-      pub turn_on : (q : State) → x ≡ To q → table_room ≤ length t₀ → (t' : List ℤ) → t' ≡ put_row t n a.command q → length t' ≡ length t
-          → Going rev s t₀ t' q (n + 1) (end + 1)
-      turn_on q w room t' te tl =
-          let few : n + 1 ≤ max_lines = counts rev (n + 1) (line_at s at end) ha e in
-          let said : command_in rev (n + 1) (line_at s at end) ≡ yields a.command = says_it rev (n + 1) (line_at s at end) ha e in
-          let cok : CommandOk a.command = read_ok rev (n + 1) (line_at s at end) a.command said in
-          let sok : StateOk q = keeps p q a.command g.ok cok (sym xe ∙ w) in
-          let d = step_taken rev s at p n h end he a.command said q (sym xe ∙ w) in
+      pub turn_on : (q : State) → x ≡ Ok q → table_room ≤ length t → (t' : List ℤ) → t' ≡ put_row t n c q → Going rev s t₀ t' q (n + 1) (end + 1)
+      turn_on q w room t' te =
+          let few : n + 1 ≤ max_lines = counts rev (n + 1) (line_at s at end) ha c e in
+          let said : command_in rev (n + 1) (line_at s at end) ≡ yields c = says_it rev (n + 1) (line_at s at end) ha c e in
+          let cok : CommandOk c = read_ok rev (n + 1) (line_at s at end) c said in
+          let sok : StateOk q = keeps p q c g.ok cok (sym xe ∙ w) in
+          let d = step_taken rev s at p n h end he c said q (sym xe ∙ w) in
           let v = run_from rev q (lines_of (drop (end + 1) s)) (n + 1) in
           record {
             count = few;
-            room = tl ∙ g.room;
             ok = sok;
-            told = told_before n (record { command = a.command; state = q }) v ∙ ap (told_from n) (sym d) ∙ g.told;
-            left = ap (λ (z : List ℤ). left_from z (n + 1) v) te ∙ left_before t n a.command q cok sok (omega (arith, g.room)) v ∙ ap (left_from t n) (sym d) ∙ g.left;
+            told = told_before n (record { command = c; state = q }) v ∙ ap (told_from n) (sym d) ∙ g.told;
+            left = ap (λ (z : List ℤ). left_from z (n + 1) v) te ∙ left_before t n c q cok sok (omega arith) v ∙ ap (left_from t n) (sym d) ∙ g.left;
           }

@@ -1,116 +1,75 @@
 -- What the print-outs leave, one law for each way out.
 use mathlib.Core.Path.{◌≡◌, refl, sym, ap, ◌∙◌, subst₂}
-use mathlib.Core.Bool.{Bool, true, false, not}
+use mathlib.Core.Bool.{true}
 use mathlib.Core.List.{List}
-use Prim.Native.Nat.{ℕ, ◌+◌, ◌-◌, ◌<◌, ◌≤◌}
+use Prim.Native.Nat.{ℕ, ◌+◌, ◌-◌, ◌≤◌}
 use native.Mathlib.Omega.{arith}
-use borrow.Author.Tests.{le-leb, lt-leb, leb-true, not-true, not-false}
+use borrow.Author.Tests.{leb-true}
 use lib.Dec.{leb}
 use lib.IntN.{ℤ}
 use lib.ListN.{length, drop}
+use Rattle.std.specs.Prelude.{Option, Some, None, Ok, Err}
+use Rattle.rules.specs.Results.{Answer, Looked, refused_at}
 use Rattle.lists.proofs.Choice.{both}
-use Rattle.runs.specs.Machine.{Verdict, accepted, refused, on_verdict}
+use Rattle.runs.specs.Machine.{Verdict, accepted, refused, last_of}
 use Rattle.rules.specs.declared.Refusal.{Refusal}
-use Rattle.rules.specs.declared.Answer.{Answer}
-use Rattle.rules.specs.declared.Answer.TheVariants.{Done, Refused}
+use Rattle.rules.specs.declared.Refused.{Refused}
 use Rattle.rules.specs.declared.Counts.{Counts}
+use Rattle.rules.specs.declared.Row.{Row}
+use Rattle.rules.specs.declared.State.{State}
+use Rattle.rules.specs.State.{start}
 use Rattle.rules.specs.declared.Counted.{Counted}
 use Rattle.rules.specs.declared.Revision.{Revision}
 use Rattle.rules.specs.Numbers.{max_tool}
-use Rattle.rules.specs.Rows.{table_room, table_numbers, Good}
+use Rattle.rules.specs.Rows.{table_room, table_numbers, entry_of, Good}
 use Rattle.rules.specs.Reading.{Rows, file_of, read_answer, read_leaves}
-use Rattle.rules.specs.Counting.{counts_of, read_counts}
-use Rattle.rules.specs.Printing.{refused_text, holes_text, printed, counts_lines, counts_printed}
-use Rattle.rules.proofs.Said.{said_one}
-use Rattle.laws.proofs.Sizes.{sizes_say, room_is}
-use Rattle.answers.proofs.AcceptedFile.{ReadDone, file_few, read_done, read_accepts, read_writes, read_refuses}
+use Rattle.rules.specs.Editing.{state_in}
+use Rattle.rules.specs.Counting.{counts_of}
+use Rattle.rules.specs.Printing.{refused_text, printed, counts_printed}
+use Rattle.rules.proofs.Said.{said_one, refused_same}
+use Rattle.laws.proofs.Sizes.{sizes_say}
+use Rattle.answers.proofs.AcceptedFile.{ReadDone, file_few, read_done, read_accepts, read_writes, read_refuses, read_counts_lem}
 use Rattle.answers.proofs.GoodTables.{file_table}
 use Rattle.table.specs.Table.{look_at}
 use Rattle.reader.specs.Read.{ReadIs}
 use Rattle.text.specs.Wrote.{Wrote}
 use Rattle.text.proofs.Wrote.{wrote_all}
-use Rattle.report.specs.Parts.{table_text, counts_text, text_from}
+use Rattle.report.specs.Parts.{Out, holes_out, counts_out, PrintsOut}
 use Rattle.report.specs.Report.{text_room, blocks_fit, Reports}
-use Rattle.report.proofs.Printed.{text_is, counts_text_is}
+use Rattle.report.proofs.Printed.{counts_are, last_found, text_is}
 use Rattle.report.proofs.Short.{printed_short, counts_printed_short}
 
 -- ---- the room
 
 module _ (table : List ℤ) (text : List ℕ) where
-  pub table_under : length table < table_room → false ≡ blocks_fit table text
-  unfolding blocks_fit
-  table_under h = rw (lt-leb table_room (length table) h)
-
-  pub table_fits : table_room ≤ length table → leb text_room (length text) ≡ blocks_fit table text
-  unfolding blocks_fit
-  table_fits h = rw (le-leb table_room (length table) h)
-
   fit_says : blocks_fit table text ≡ true → (table_room ≤ length table) × (text_room ≤ length text)
   unfolding blocks_fit
   fit_says e =
       let w = both (leb table_room (length table)) (leb text_room (length text)) e in
       (leb-true table_room (length table) w.0, leb-true text_room (length text) w.1)
 
--- ---- a print-out: what is shown of a refused file, and of accepted rows
-
-pub record Shows (rev : Revision) (file : List ℕ) (shown : Rows → List ℕ) (x : List ℕ) : Type 0 where
-  pub is : x ≡ on_verdict (file_of rev file) refused_text shown
-  pub short : length x ≤ text_room
+-- ---- the two print-outs
 
 module _ (rev : Revision) (file : List ℕ) where
-  pub holes_shows : Shows rev file holes_text (printed rev file)
+  pub holes_prints : PrintsOut rev file holes_out (printed rev file)
   unfolding printed
-  holes_shows = record { is = refl; short = printed_short rev file }
+  holes_prints = record {
+    short = printed_short rev file;
+    of_refused = λ e i h. rw h;
+    of_rows = λ rs h t g. rw h (sym (text_is t (length rs) rs g refl));
+  }
 
-  pub counts_shows : Shows rev file (counts_lines max_tool) (counts_printed rev file)
+  pub counts_prints : PrintsOut rev file counts_out (counts_printed rev file)
   unfolding counts_printed
-  counts_shows = record { is = refl; short = counts_printed_short rev file }
-
--- ---- what it leaves
-
-module _ {rev : Revision} {file : List ℕ} {shown : Rows → List ℕ} {x : List ℕ} (s : Shows rev file shown x) (table : List ℤ) (text : List ℕ) {b : Bool} (f : b ≡ blocks_fit table text) where
-  pub not_fitting : not b ≡ true → Reports x rev file table text 0 table text
-  not_fitting h = let e = sym f ∙ not-true b h in record { bytes = rw e; count = rw e; numbers = rw e; inside = omega arith }
-
-  module _ (h : not b ≡ false) where
-    roomy : blocks_fit table text ≡ true
-    roomy = sym f ∙ not-false b h
-
-    reported : {T : List ℤ} → T ≡ read_leaves rev file table → (y : List ℕ) → y ≡ x → {text' : List ℕ} {r : ℕ} → Wrote text 0 y text' r → Reports x rev file table text r T text'
-    reported le y e p =
-        let z = (fit_says table text roomy).1 in
-        let w = wrote_all (omega (arith, z, ap length e, s.short)) p in
-        record { bytes = rw (roomy, ← e) w.0; count = rw (roomy, ← e) (omega (arith, w.1)); numbers = rw roomy le; inside = omega (arith, z, w.1, ap length e, s.short) }
-
-    -- ---- a refused file
-
-    refusal : (e : Refusal) (i : ℕ) → read_answer rev file table ≡ Refused e i → (v : Verdict Rows Refusal) → file_of rev file ≡ v → file_of rev file ≡ refused e i
-    refusal e i a (accepted rs) v =
-        let d = read_accepts rev file table rs v (omega (arith, file_few rev file rs v, (fit_says table text roomy).0)) in
-        absurd (let z : ◌≡◌ {A = ℕ} 0 1 = cc in omega arith)
-    refusal e i a (refused y j) v =
-        let d = (read_refuses rev file table y j v).0 in
-        let g : ◌≡◌ {A = Answer} (Refused y j) (Refused e i) = sym d ∙ a in
-        let p : y ≡ e = cc in
-        let q : j ≡ i = cc in
-        rw (← p, ← q) v
-
-    refused_text_lem : (e : Refusal) (i : ℕ) → read_answer rev file table ≡ Refused e i → refused_text e i ≡ x
-    refused_text_lem e i a = sym (s.is ∙ rw (refusal e i a (file_of rev file) refl))
-
-    pub file_refused : {c : Counted} {T : List ℤ} → ReadIs rev file table c T → (e : Refusal) (i : ℕ) → c.answer ≡ Refused e i
-        → {text' : List ℕ} {r : ℕ} → Wrote text 0 (refused_text e i) text' r → Reports x rev file table text r T text'
-    file_refused d e i g p = reported d.leaves _ (refused_text_lem e i (sym (said_one d.answer) ∙ g)) p
-
-    -- ---- an accepted file
-
-    file_done : {T : List ℤ} → T ≡ read_leaves rev file table → (n : ℕ) (d : ReadDone rev file table n) (y : List ℕ) → y ≡ shown d.rows
-        → {text' : List ℕ} {r : ℕ} → Wrote text 0 y text' r → Reports x rev file table text r T text'
-    file_done le n d y e p = reported le y (e ∙ sym (s.is ∙ rw d.read)) p
+  counts_prints = record {
+    short = counts_printed_short rev file;
+    of_refused = λ e i h. rw h;
+    of_rows = λ rs h t g. rw h (sym (counts_are t (length rs) rs g max_tool (omega arith)));
+  }
 
 -- ---- the table that an accepted file was read into
 
-module _ {rev : Revision} {file : List ℕ} {table T : List ℤ} {a : Counted} (d : ReadIs rev file table a T) (n : ℕ) (g : a.answer ≡ Done n) where
+module _ {rev : Revision} {file : List ℕ} {table T : List ℤ} {a : Counted} (d : ReadIs rev file table a T) (n : ℕ) (g : a.answer ≡ Ok n) where
   done : ReadDone rev file table n
   done = read_done rev file table n (sym (said_one d.answer) ∙ g)
 
@@ -122,15 +81,50 @@ module _ {rev : Revision} {file : List ℕ} {table T : List ℤ} {a : Counted} (
   pub some_lines : 1 ≤ n
   some_lines = (sizes_say T n good.fits).some
 
-  counts_of_lem : a.counts ≡ counts_of done.rows
-  unfolding read_counts
-  counts_of_lem = d.counts ∙ rw (done.read, room_is table (length done.rows) done.room)
+  counts_are_lem : a.counts ≡ counts_of done.rows
+  counts_are_lem = d.counts ∙ read_counts_lem rev file table done.rows done.read done.room
 
-  module _ (text : List ℕ) {b : Bool} (f : b ≡ blocks_fit table text) (h : not b ≡ false) {text' : List ℕ} {r : ℕ} where
-    pub holes_done : Wrote text 0 (text_from (table_text T n) (look_at T (n - 1))) text' r → Reports (printed rev file) rev file table text r T text'
-    holes_done p = file_done (holes_shows rev file) table text f h d.leaves n done _ (text_is T n done.rows good (sym done.counted)) p
+  module _ {l : Looked} (e : l ≡ look_at T (n - 1)) where
+    last_row : state_in (entry_of l) ≡ Some (last_of start done.rows)
+    last_row = rw e (last_found T n done.rows good (sym done.counted))
 
-    pub counts_done : Wrote text 0 (text_from (counts_text T n a.counts) (look_at T (n - 1))) text' r → Reports (counts_printed rev file) rev file table text r T text'
-    counts_done p =
-        file_done (counts_shows rev file) table text f h d.leaves n done _
-        (ap (λ (c : Counts). text_from (counts_text T n c) (look_at T (n - 1))) counts_of_lem ∙ counts_text_is T n done.rows good (sym done.counted)) p
+    pub no_last : l ≡ None → ⊥
+    no_last k = let z : ◌≡◌ {A = Option State} None (Some (last_of start done.rows)) = rw k at last_row in cc
+
+    last_lem : (r : Row) → l ≡ Some r → r.state ≡ last_of start done.rows
+    last_lem r k = let z : ◌≡◌ {A = Option State} (Some r.state) (Some (last_of start done.rows)) = rw k at last_row in cc
+
+-- ---- what it leaves
+
+module _ {rev : Revision} {file : List ℕ} {out : Out} {x : List ℕ} (s : PrintsOut rev file out x) where
+  shown_lem : (rs : Rows) → file_of rev file ≡ accepted rs → (t : List ℤ) (n : ℕ) → Good t n rs → n ≡ length rs → (q : State) → q ≡ last_of start rs
+      → (c : Counts) → c ≡ counts_of rs → out t n q c ≡ x
+  shown_lem rs h t n g m q e c f = let y = s.of_rows rs h t (rw m at g) in rw (m, e, f) (sym y)
+
+  module _ (table : List ℤ) (text : List ℕ) (roomy : blocks_fit table text ≡ true) where
+    reported : {T : List ℤ} → T ≡ read_leaves rev file table → (y : List ℕ) → y ≡ x → {text' : List ℕ} {r : ℕ} → Wrote text 0 y text' r → Reports x rev file table text r T text'
+    reported le y e p =
+        let z = (fit_says table text roomy).1 in
+        let w = wrote_all (omega (arith, z, ap length e, s.short)) p in
+        record { bytes = rw (roomy, ← e) w.0; count = rw (roomy, ← e) (omega (arith, w.1)); numbers = rw roomy le; inside = omega (arith, z, w.1, ap length e, s.short) }
+
+    -- for a file that is accepted, the table has room
+    refusal : (e : Refusal) (i : ℕ) → read_answer rev file table ≡ refused_at e i → (v : Verdict Rows Refusal) → file_of rev file ≡ v → file_of rev file ≡ refused e i
+    refusal e i a (accepted rs) v =
+        let d = read_accepts rev file table rs v (omega (arith, file_few rev file rs v, (fit_says table text roomy).0)) in
+        absurd (let z : ◌≡◌ {A = ℕ} 0 1 = cc in omega arith)
+    refusal e i a (refused y j) v =
+        let d = (read_refuses rev file table y j v).0 in
+        let g : ◌≡◌ {A = Answer} (refused_at y j) (refused_at e i) = sym d ∙ a in
+        let k = refused_same g in
+        rw (← k.0, ← k.1) v
+
+    module _ {T : List ℤ} {a : Counted} (d : ReadIs rev file table a T) {text' : List ℕ} {k : ℕ} where
+      pub file_refused : (r : Refused) → a.answer ≡ Err r → Wrote text 0 (refused_text r.refusal r.line) text' k → Reports x rev file table text k T text'
+      file_refused r g p = reported d.leaves _ (sym (s.of_refused r.refusal r.line (refusal r.refusal r.line (sym (said_one d.answer) ∙ g) (file_of rev file) refl))) p
+
+      pub file_done : (n : ℕ) → a.answer ≡ Ok n → {l : Looked} → l ≡ look_at T (n - 1) → (r : Row) → l ≡ Some r → Wrote text 0 (out T n r.state a.counts) text' k
+          → Reports x rev file table text k T text'
+      file_done n g e r k p =
+          let f = done d n g in
+          reported d.leaves _ (shown_lem f.rows f.read T n (good d n g) (sym f.counted) r.state (last_lem d n g e r k) a.counts (counts_are_lem d n g)) p

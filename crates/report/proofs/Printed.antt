@@ -7,23 +7,22 @@ use native.Mathlib.Omega.{arith}
 use borrow.Author.Tests.{le-leb}
 use lib.IntN.{ℤ}
 use lib.ListN.{length, get_or}
+use Rattle.std.specs.Prelude.{Some, None, Ok, Err}
+use Rattle.std.specs.Result.{result_ok}
+use Rattle.rules.specs.Results.{DiameterAnswer}
 use Rattle.runs.specs.Machine.{Entry, bad, all_hold, last_of}
 use Rattle.runs.specs.Agreement.{state_after}
 use Rattle.rules.specs.declared.Command.{Command}
 use Rattle.rules.specs.declared.State.{State}
-use Rattle.rules.specs.declared.Looked.{Looked}
-use Rattle.rules.specs.declared.Looked.TheVariants.{Holds, Bad}
-use Rattle.rules.specs.declared.DiameterAnswer.{DiameterAnswer}
-use Rattle.rules.specs.declared.DiameterAnswer.TheVariants as D
-use Rattle.rules.specs.Refusals.{not_declared}
 use Rattle.rules.specs.Numbers.{max_tool, is_tool}
 use Rattle.tools.specs.Set.{has}
 use Rattle.rules.specs.State.{start}
 use Rattle.rules.specs.Rows.{entry_of, Good}
 use Rattle.rules.specs.Reading.{Rows, no_row}
 use Rattle.rules.specs.Holes.{hole_of}
-use Rattle.rules.specs.Asking.{on_row, hole_answer, diameter_in, diameter_answer}
-use Rattle.rules.specs.Counting.{each_tool, of_tool, hits, routs, how_many, counts_of}
+use Rattle.rules.specs.Asking.{hole_answer, diameter_in, diameter_answer}
+use Rattle.rules.specs.Editing.{state_in}
+use Rattle.rules.specs.Counting.{hits, routs, how_many, counts_of}
 use Rattle.rules.specs.Printing.{unit_line, tool_line, tool_lines, hole_line, hole_lines, one_hole, hole_count, holes_text, counts_line, counts_lines}
 use Rattle.laws.proofs.Sizes.{sizes_say}
 use Rattle.laws.proofs.Declared.{undeclared}
@@ -32,21 +31,17 @@ use Rattle.answers.proofs.GoodTables.{good_whole}
 use Rattle.answers.proofs.LineHoles.{good_hole}
 use Rattle.table.specs.Table.{look_at}
 use Rattle.table.proofs.Looks.{entries_at}
-use Rattle.report.specs.Parts.{diameter_of, line_of_tool, counts_of_tool, lines_of_tools, lines_text, holes_in, unit_text, count_text, table_text, counts_text, text_from}
+use Rattle.report.specs.Parts.{diameter_of, holes_line, counts_line_of, where_some, lines_of_tools, lines_text, holes_in, unit_text, count_text, table_text}
 
 -- ---- the last row
 
-entry_text : (f : State → List ℕ) (l : Looked) → text_from f l ≡ on_row (entry_of l) [] (λ r. f r.state)
-entry_text f (Holds c s) = refl
-entry_text f Bad = refl
-
-last_state : (f : State → List ℕ) (p : State) (rs : Rows) → 1 ≤ length rs → on_row (get_or (all_hold rs) (length rs - 1) bad) [] (λ r. f r.state) ≡ f (last_of p rs)
+last_state : (p : State) (rs : Rows) → 1 ≤ length rs → state_in (get_or (all_hold rs) (length rs - 1) bad) ≡ Some (last_of p rs)
 unfolding all_hold last_of
-last_state f p [] h = absurd (omega arith)
-last_state f p (r ∷ []) h = refl
-last_state f p (r ∷ (s ∷ rs)) h =
+last_state p [] h = absurd (omega arith)
+last_state p (r ∷ []) h = refl
+last_state p (r ∷ (s ∷ rs)) h =
     let e : length (r ∷ (s ∷ rs)) - 1 ≡ suc (length (s ∷ rs) - 1) = omega arith in
-    rw e (last_state f r.state (s ∷ rs) (omega arith))
+    rw e (last_state r.state (s ∷ rs) (omega arith))
 
 -- ---- the lines
 
@@ -68,42 +63,47 @@ module _ (t : List ℤ) (n : ℕ) (rs : Rows) (g : Good t n rs) where
   unfolding diameter_answer is_tool
   answer_is tool a b = rw (g.fits, le-leb 1 tool a, le-leb tool max_tool b, g.found)
 
-  diameter_is : (tool : ℕ) → 1 ≤ tool → tool ≤ max_tool → diameter_of t n (last_of start rs).tools tool ≡ diameter_in tool (all_hold rs) 0
+  diameter_is : (tool : ℕ) → 1 ≤ tool → tool ≤ max_tool → diameter_of t n (last_of start rs).tools tool ≡ result_ok (diameter_in tool (all_hold rs) 0)
   unfolding diameter_of
   diameter_is tool a b = by (has (last_of start rs).tools tool) refl
     where
-      by : (h : Bool) → has (last_of start rs).tools tool ≡ h → cond h (diameter_answer t n tool) (D.Refused not_declared 0) ≡ diameter_in tool (all_hold rs) 0
-      by true e = answer_is tool a b
-      by false e = sym (undeclared tool b rs start 0 g.follows (good_whole t n rs g).rows.within_range e)
+      by : (h : Bool) → has (last_of start rs).tools tool ≡ h → cond h (result_ok (diameter_answer t n tool)) None ≡ result_ok (diameter_in tool (all_hold rs) 0)
+      by true e = ap result_ok (answer_is tool a b)
+      by false e = sym (ap result_ok (undeclared tool b rs start 0 g.follows (good_whole t n rs g).rows.within_range e))
 
-  tools_are : (k : ℕ) → k ≤ max_tool → lines_of_tools (line_of_tool t n (last_of start rs).tools) k ≡ tool_lines k rs
-  unfolding lines_of_tools line_of_tool tool_lines
+  tool_is : (tool : ℕ) (a : DiameterAnswer) → where_some (holes_line tool) (result_ok a) ≡ tool_line tool a
+  tool_is tool (Ok m) = refl
+  tool_is tool (Err r) = refl
+
+  tools_are : (k : ℕ) → k ≤ max_tool → lines_of_tools holes_line (diameter_of t n (last_of start rs).tools) k ≡ tool_lines k rs
+  unfolding lines_of_tools tool_lines
   tools_are zero h = refl
-  tools_are (suc k) h = ap₂ ◌++◌ (ap (tool_line (max_tool - k)) (diameter_is (max_tool - k) (omega arith) (omega arith))) (tools_are k (omega arith))
+  tools_are (suc k) h =
+      let tool = max_tool - k in
+      ap₂ ◌++◌ (ap (where_some (holes_line tool)) (diameter_is tool (omega arith) (omega arith)) ∙ tool_is tool (diameter_in tool (all_hold rs) 0)) (tools_are k (omega arith))
 
   -- with the counts of the rows
-  count_is : (tool : ℕ) → 1 ≤ tool → tool ≤ max_tool
-      → counts_of_tool t n (last_of start rs).tools (counts_of rs) tool ≡ counts_line tool (diameter_in tool (all_hold rs) 0) (how_many hits rs tool) (how_many routs rs tool)
-  unfolding counts_of_tool counts_of
-  count_is tool a b =
-      ap (λ (x : DiameterAnswer). counts_line tool x (of_tool (each_tool (how_many hits rs)) tool) (of_tool (each_tool (how_many routs rs)) tool)) (diameter_is tool a b)
-      ∙ ap₂ (counts_line tool (diameter_in tool (all_hold rs) 0)) (of_each (how_many hits rs) tool a b) (of_each (how_many routs rs) tool a b)
+  count_is : (tool : ℕ) → 1 ≤ tool → tool ≤ max_tool → (a : DiameterAnswer)
+      → where_some (counts_line_of (counts_of rs) tool) (result_ok a) ≡ counts_line tool a (how_many hits rs tool) (how_many routs rs tool)
+  unfolding counts_line_of counts_of
+  count_is tool h k (Ok m) = ap₂ (counts_line tool (Ok m)) (of_each (how_many hits rs) tool h k) (of_each (how_many routs rs) tool h k)
+  count_is tool h k (Err r) = refl
 
-  counts_are : (k : ℕ) → k ≤ max_tool → lines_of_tools (counts_of_tool t n (last_of start rs).tools (counts_of rs)) k ≡ counts_lines k rs
+  pub counts_are : (k : ℕ) → k ≤ max_tool → lines_of_tools (counts_line_of (counts_of rs)) (diameter_of t n (last_of start rs).tools) k ≡ counts_lines k rs
   unfolding lines_of_tools counts_lines
   counts_are zero h = refl
-  counts_are (suc k) h = ap₂ ◌++◌ (count_is (max_tool - k) (omega arith) (omega arith)) (counts_are k (omega arith))
+  counts_are (suc k) h =
+      let tool = max_tool - k in
+      ap₂ ◌++◌ (ap (where_some (counts_line_of (counts_of rs) tool)) (diameter_is tool (omega arith) (omega arith)) ∙ count_is tool (omega arith) (omega arith) (diameter_in tool (all_hold rs) 0)) (counts_are k (omega arith))
 
   -- ---- the whole
 
   module _ (c : n ≡ length rs) where
-    from_last : (f : State → List ℕ) → text_from f (look_at t (n - 1)) ≡ f (last_of start rs)
-    from_last f =
+    pub last_found : state_in (entry_of (look_at t (n - 1))) ≡ Some (last_of start rs)
+    last_found =
         let z = sizes_say t n g.fits in
         let e : entry_of (look_at t (n - 1)) ≡ get_or (all_hold rs) (n - 1) bad = sym (entries_at n t (n - 1) (omega (arith, z.some)) z.room) ∙ ap (λ (es : List (Entry Command State)). get_or es (n - 1) bad) g.found in
-        entry_text f (look_at t (n - 1))
-        ∙ ap (λ (x : Entry Command State). on_row x [] (λ r. f r.state)) (e ∙ ap (λ (k : ℕ). get_or (all_hold rs) (k - 1) bad) c)
-        ∙ last_state f start rs (omega (arith, z.some, c))
+        ap state_in (e ∙ ap (λ (k : ℕ). get_or (all_hold rs) (k - 1) bad) c) ∙ last_state start rs (omega (arith, z.some, c))
 
     all_lines : (lines_text t n 0 (length rs) ≡ hole_lines start rs 0) × (holes_in t n 0 (length rs) ≡ hole_count start rs)
     all_lines = lines_are t n rs start 0 (λ k h.
@@ -111,16 +111,9 @@ module _ (t : List ℤ) (n : ℕ) (rs : Rows) (g : Good t n rs) where
         let f : k + 1 - 1 ≡ k = omega arith in
         ap (hole_answer t n) e ∙ rw f at (good_hole t n rs g c (k + 1) (omega arith) (omega arith)))
 
-    whole_text_lem : table_text t n (last_of start rs) ≡ holes_text rs
+    pub text_is : table_text t n (last_of start rs) ≡ holes_text rs
     unfolding table_text holes_text unit_line
-    whole_text_lem =
+    text_is =
         ap (◌++◌ (unit_text (last_of start rs).unit))
         (ap₂ ◌++◌ (tools_are max_tool (omega arith))
         (ap₂ (λ (x : List ℕ) (k : ℕ). x ++ count_text k) (ap (lines_text t n 0) c ∙ all_lines.0) (ap (holes_in t n 0) c ∙ all_lines.1)))
-
-    pub text_is : text_from (table_text t n) (look_at t (n - 1)) ≡ holes_text rs
-    text_is = from_last (table_text t n) ∙ whole_text_lem
-
-    pub counts_text_is : text_from (counts_text t n (counts_of rs)) (look_at t (n - 1)) ≡ counts_lines max_tool rs
-    unfolding counts_text
-    counts_text_is = from_last (counts_text t n (counts_of rs)) ∙ counts_are max_tool (omega arith)

@@ -7,6 +7,9 @@ use lib.Dec.{eqb}
 use lib.IntN.{ℤ, pos, negsuc, nat_abs}
 use lib.ListN.{length, length-append}
 use lib.Signed.{mag}
+use Rattle.rules.specs.Refusals.{refusal_number, refusal_column}
+use Rattle.rules.specs.Results.{DiameterAnswer, HoleAnswer}
+use Rattle.std.specs.Prelude.{Ok, Err}
 use Rattle.lists.specs.Words.{bytes}
 use Rattle.lists.proofs.Choice.{cond_all}
 use Rattle.runs.specs.Machine.{Verdict, accepted, refused, on_verdict, all_hold, last_of}
@@ -15,9 +18,6 @@ use Rattle.rules.specs.declared.Command.{Command}
 use Rattle.rules.specs.declared.State.{State}
 use Rattle.rules.specs.declared.Refusal.{Refusal}
 use Rattle.rules.specs.declared.Hole.{Hole}
-use Rattle.rules.specs.declared.HoleAnswer.{HoleAnswer}
-use Rattle.rules.specs.declared.DiameterAnswer.{DiameterAnswer}
-use Rattle.rules.specs.declared.DiameterAnswer.TheVariants as D
 use Rattle.rules.specs.declared.Revision.{Revision}
 use Rattle.rules.specs.Numbers.{max_number, max_tool, max_lines}
 use Rattle.rules.specs.Kinds as Kinds
@@ -49,8 +49,8 @@ unit_short rs = cond_all (λ (x : List ℕ). length (printed_line (bytes "unit")
 
 tool_short : (t : ℕ) (a : DiameterAnswer) → length (tool_line t a) ≤ 47
 unfolding decimals
-tool_short t (D.Is d) = numbers_short (bytes "tool") (t ∷ d ∷ [])
-tool_short t (D.Refused e i) = omega arith
+tool_short t (Ok d) = numbers_short (bytes "tool") (t ∷ d ∷ [])
+tool_short t (Err r) = omega arith
 
 tools_short : (k : ℕ) (rs : Rows) → length (tool_lines k rs) ≤ 47 * k
 unfolding tool_lines
@@ -65,13 +65,13 @@ count_short c = numbers_short (bytes "holes") (c ∷ [])
 
 refused_short : (e : Refusal) (i : ℕ) → length (refused_text e i) ≤ 71
 unfolding refused_text decimals
-refused_short e i = numbers_short (bytes "refused") (e.number ∷ i ∷ e.column ∷ [])
+refused_short e i = numbers_short (bytes "refused") ((refusal_number e) ∷ i ∷ (refusal_column e) ∷ [])
 
 -- a tool, its diameter and its counts
 counts_line_short : (t : ℕ) (a : DiameterAnswer) (h r : ℕ) → length (counts_line t a h r) ≤ 84
 unfolding decimals
-counts_line_short t (D.Is d) h r = omega (arith, (decimal_range t).1, numbers_short (decimal t) (d ∷ h ∷ r ∷ []))
-counts_line_short t (D.Refused e i) h r = omega arith
+counts_line_short t (Ok d) h r = omega (arith, (decimal_range t).1, numbers_short (decimal t) (d ∷ h ∷ r ∷ []))
+counts_line_short t (Err r') h r = omega arith
 
 counts_short : (k : ℕ) (rs : Rows) → length (counts_lines k rs) ≤ 84 * k
 unfolding counts_lines

@@ -4,31 +4,29 @@ use mathlib.Core.List.{List, [], ◌++◌}
 use Prim.Native.Nat.{ℕ, suc, ◌+◌, ◌-◌, ◌<◌, ◌≤◌}
 use native.Mathlib.Omega.{arith}
 use lib.IntN.{ℤ}
+use Rattle.std.specs.Prelude.{Option}
 use Rattle.rules.specs.Numbers.{max_tool}
 use Rattle.rules.specs.Asking.{hole_answer}
 use Rattle.rules.specs.Printing.{hole_line, one_hole}
 use Rattle.text.proofs.Wrote.{Rest}
-use Rattle.report.specs.Parts.{lines_of_tools, lines_text, holes_in}
+use Rattle.report.specs.Parts.{where_some, lines_of_tools, lines_text, holes_in}
 
 -- ---- tools
 
-module _ (line : ℕ → List ℕ) where
-  pub tools_next : (tool : ℕ) → 1 ≤ tool → tool ≤ max_tool → lines_of_tools line (max_tool + 1 - tool) ≡ line tool ++ lines_of_tools line (max_tool + 1 - (tool + 1))
+module _ (line : ℕ → ℕ → List ℕ) (diameter : ℕ → Option ℕ) where
+  pub tools_next : (tool : ℕ) → 1 ≤ tool → tool ≤ max_tool
+      → lines_of_tools line diameter (max_tool + 1 - tool) ≡ where_some (line tool) (diameter tool) ++ lines_of_tools line diameter (max_tool + 1 - (tool + 1))
   unfolding lines_of_tools
   tools_next tool h k =
       let e : max_tool + 1 - tool ≡ suc (max_tool + 1 - (tool + 1)) = omega arith in
       let f : max_tool - (max_tool + 1 - (tool + 1)) ≡ tool = omega arith in
-      ap (lines_of_tools line) e ∙ ap (λ (z : ℕ). line z ++ lines_of_tools line (max_tool + 1 - (tool + 1))) f
+      ap (lines_of_tools line diameter) e ∙ ap (λ (z : ℕ). where_some (line z) (diameter z) ++ lines_of_tools line diameter (max_tool + 1 - (tool + 1))) f
 
-  pub tools_over : (tool : ℕ) → max_tool < tool → lines_of_tools line (max_tool + 1 - tool) ≡ []
+  pub tools_over : (tool : ℕ) → max_tool < tool → lines_of_tools line diameter (max_tool + 1 - tool) ≡ []
   unfolding lines_of_tools
-  tools_over tool h = let e : max_tool + 1 - tool ≡ 0 = omega arith in ap (lines_of_tools line) e
+  tools_over tool h = let e : max_tool + 1 - tool ≡ 0 = omega arith in ap (lines_of_tools line diameter) e
 
 -- ---- lines
-
-pub lines_start : {b : List ℕ} {at : ℕ} (t : List ℤ) (n : ℕ)
-    → (0 + holes_in t n 0 (n - 0) ≡ holes_in t n 0 n) × Rest b at (lines_text t n 0 n) b at (lines_text t n 0 (n - 0))
-lines_start t n = let e : n - 0 ≡ n = omega arith in rw e (omega arith, λ _ _ w. w)
 
 module _ (t : List ℤ) (n i : ℕ) where
   module _ (h : i < n) where

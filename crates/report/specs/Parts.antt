@@ -1,37 +1,54 @@
 -- For contracts of private functions alone: the parts of a print-out, from a table of n rows.
-use Rattle.std.specs.Prelude.{cond, List, [], ◌∷◌, ◌++◌, ℕ, zero, suc, ◌+◌, ◌-◌, ℤ}
+use Rattle.std.specs.Prelude.{◌≡◌, length, cond, List, [], ◌∷◌, ◌++◌, ℕ, zero, suc, ◌+◌, ◌-◌, ◌≤◌, ℤ, Option, Some, None, Ok}
+use Rattle.std.specs.Result.{result_ok}
+use Rattle.std.specs.Borrow.{Bor, MutBor}
 use Rattle.lists.specs.Words.{bytes}
+use Rattle.runs.specs.Machine.{accepted, refused, last_of}
+use Rattle.rules.specs.declared.Refusal.{Refusal}
+use Rattle.rules.specs.declared.Revision.{Revision}
+use Rattle.rules.specs.State.{start}
+use Rattle.rules.specs.Rows.{Good}
+use Rattle.rules.specs.Reading.{Rows, file_of}
 use Rattle.tools.specs.declared.Tools.{Tools}
 use Rattle.rules.specs.declared.State.{State}
 use Rattle.rules.specs.declared.Counts.{Counts}
-use Rattle.rules.specs.declared.Looked.{Looked}
-use Rattle.rules.specs.declared.Looked.TheVariants.{Holds, Bad}
-use Rattle.rules.specs.declared.DiameterAnswer.{DiameterAnswer}
-use Rattle.rules.specs.declared.DiameterAnswer.TheVariants as D
-use Rattle.rules.specs.Refusals.{not_declared}
 use Rattle.rules.specs.Numbers.{max_tool}
 use Rattle.tools.specs.Set.{has}
 use Rattle.rules.specs.Asking.{hole_answer, diameter_answer}
-use Rattle.rules.specs.Counting.{of_tool}
-use Rattle.rules.specs.Printing.{decimal, printed_line, unit_name, tool_line, hole_line, one_hole, counts_line}
+use Rattle.rules.specs.Counting.{of_tool, counts_of}
+use Rattle.text.specs.Wrote.{Wrote}
+use Rattle.report.specs.Report.{text_room}
+use Rattle.rules.specs.Printing.{decimal, printed_line, unit_name, tool_line, hole_line, one_hole, counts_line, refused_text}
 
 -- ---- tools
 
--- the diameter of a tool; that of one not declared isn't looked for
-unfoldable pub diameter_of : List ℤ → ℕ → Tools → ℕ → DiameterAnswer
-diameter_of t n d tool = cond (has d tool) (diameter_answer t n tool) (D.Refused not_declared 0)
+-- the diameter of a declared tool; that of another isn't looked for
+unfoldable pub diameter_of : List ℤ → ℕ → Tools → ℕ → Option ℕ
+diameter_of t n d tool = cond (has d tool) (result_ok (diameter_answer t n tool)) None
 
--- the line of a tool: that of `holes`, and that of `counts`
-unfoldable pub line_of_tool : List ℤ → ℕ → Tools → ℕ → List ℕ
-line_of_tool t n d tool = tool_line tool (diameter_of t n d tool)
+-- the line of a tool and its diameter: that of `holes`, and that of `counts`
+abbrev pub holes_line : ℕ → ℕ → List ℕ
+holes_line tool m = tool_line tool (Ok m)
 
-unfoldable pub counts_of_tool : List ℤ → ℕ → Tools → Counts → ℕ → List ℕ
-counts_of_tool t n d c tool = counts_line tool (diameter_of t n d tool) (of_tool c.hits tool) (of_tool c.routs tool)
+unfoldable pub counts_line_of : Counts → ℕ → ℕ → List ℕ
+counts_line_of c tool m = counts_line tool (Ok m) (of_tool c.hits tool) (of_tool c.routs tool)
+
+abbrev pub where_some : (ℕ → List ℕ) → Option ℕ → List ℕ
+where_some line (Some m) = line m
+where_some line None = []
 
 -- the lines of the k last of all tools
-unfoldable pub lines_of_tools : (ℕ → List ℕ) → ℕ → List ℕ
-lines_of_tools line zero = []
-lines_of_tools line (suc k) = line (max_tool - k) ++ lines_of_tools line k
+unfoldable pub lines_of_tools : (ℕ → ℕ → List ℕ) → (ℕ → Option ℕ) → ℕ → List ℕ
+lines_of_tools line diameter zero = []
+lines_of_tools line diameter (suc k) = where_some (line (max_tool - k)) (diameter (max_tool - k)) ++ lines_of_tools line diameter k
+
+-- it may be called at every tool, and what it puts is the tool's line
+abbrev pub TakesTools : (MutBor (List ℕ) → ℕ → ℕ → ℕ → Type 0) → Type 0
+TakesTools pre = (b : MutBor (List ℕ)) (at tool m : ℕ) → 1 ≤ tool → tool ≤ max_tool → pre b at tool m
+
+abbrev pub PutsTools : (MutBor (List ℕ) → ℕ → ℕ → ℕ → ℕ → MutBor (List ℕ) → Type 0) → (ℕ → ℕ → List ℕ) → Type 0
+PutsTools post line =
+    (b : MutBor (List ℕ)) (at tool m r : ℕ) (b' : MutBor (List ℕ)) → post b at tool m r b' → Wrote b.now at (line tool m) b'.now r
 
 -- ---- holes
 
@@ -55,12 +72,25 @@ count_text c = printed_line (bytes "holes") (decimal c ∷ [])
 
 unfoldable pub table_text : List ℤ → ℕ → State → List ℕ
 table_text t n s =
-    unit_text s.unit ++ (lines_of_tools (line_of_tool t n s.tools) max_tool ++ (lines_text t n 0 n ++ count_text (holes_in t n 0 n)))
+    unit_text s.unit ++ (lines_of_tools holes_line (diameter_of t n s.tools) max_tool ++ (lines_text t n 0 n ++ count_text (holes_in t n 0 n)))
 
-unfoldable pub counts_text : List ℤ → ℕ → Counts → State → List ℕ
-counts_text t n c s = lines_of_tools (counts_of_tool t n s.tools c) max_tool
+-- what is put for a table of n rows, given the state after the last and their counts: that of `holes`, and that of `counts`
+abbrev pub Out : Type 0
+Out = List ℤ → ℕ → State → Counts → List ℕ
 
--- given the last row, as it is found
-abbrev pub text_from : (State → List ℕ) → Looked → List ℕ
-text_from text (Holds c s) = text s
-text_from text Bad = []
+abbrev pub holes_out : Out
+holes_out t n s c = table_text t n s
+
+abbrev pub counts_out : Out
+counts_out t n s c = lines_of_tools (counts_line_of c) (diameter_of t n s.tools) max_tool
+
+abbrev pub PutsOut : (MutBor (List ℕ) → Bor (List ℤ) → ℕ → State → Bor Counts → ℕ → MutBor (List ℕ) → Type 0) → Out → Type 0
+PutsOut post out =
+    (b : MutBor (List ℕ)) (t : Bor (List ℤ)) (n : ℕ) (s : State) (c : Bor Counts) (r : ℕ) (b' : MutBor (List ℕ))
+    → post b t n s c r b' → Wrote b.now 0 (out t.now n s c.now) b'.now r
+
+-- x is what is printed for a file, if that is put for its rows
+pub record PrintsOut (rev : Revision) (file : List ℕ) (out : Out) (x : List ℕ) : Type 0 where
+  pub short : length x ≤ text_room
+  pub of_refused : (e : Refusal) (i : ℕ) → file_of rev file ≡ refused e i → x ≡ refused_text e i
+  pub of_rows : (rs : Rows) → file_of rev file ≡ accepted rs → (t : List ℤ) → Good t (length rs) rs → x ≡ out t (length rs) (last_of start rs) (counts_of rs)

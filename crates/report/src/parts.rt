@@ -1,12 +1,12 @@
 // The unit, the tools and the holes of a table.
-ghost use Rattle.std.specs.Prelude.{◌≡◌, ◌≤◌};
+ghost use Rattle.std.specs.Prelude.{◌≡◌, ◌≤◌, ℕ, List};
 ghost use Rattle.rules.specs.Numbers.{max_tool};
 ghost use Rattle.rules.specs.Asking.{hole_answer};
-ghost use Rattle.rules.specs.Printing.{tool_line, hole_line, one_hole};
+ghost use Rattle.rules.specs.Printing.{hole_line, one_hole};
 ghost use Rattle.text.specs.Wrote.{Wrote};
-ghost use Rattle.report.specs.Parts.{unit_text, diameter_of, line_of_tool, lines_of_tools, lines_text, holes_in};
+ghost use Rattle.report.specs.Parts.{unit_text, diameter_of, holes_line, TakesTools, PutsTools, lines_of_tools, lines_text, holes_in};
 
-use rules::{DiameterAnswer, HoleAnswer, MAX_TOOL, NOT_DECLARED, unit};
+use rules::{MAX_TOOL, unit};
 use tools::Tools;
 
 // The place after some lines, and how many holes they have.
@@ -17,6 +17,7 @@ pub(crate) struct Lines {
 }
 
 // The unit's line: its name stands behind a tab.
+#[tactic(auto, unfolding(rules::specs::Printing::printed_line))]
 pub(crate) fn put_unit(text: &mut [u8], at: usize, unit: u32) -> usize
     ensures { Wrote text.old at (unit_text unit) text.new result }
 {
@@ -27,26 +28,43 @@ pub(crate) fn put_unit(text: &mut [u8], at: usize, unit: u32) -> usize
 }
 
 // A tool's diameter. One that is not declared has none, and it isn't looked for.
-pub(crate) fn diameter_of(table: &[i32], n: usize, declared: Tools, tool: u32) -> DiameterAnswer
+#[tactic(auto, using(rules::proofs::Said::diameter_said_one), unfolding(crate::specs::Parts::diameter_of))]
+fn diameter_of(table: &[i32], n: usize, declared: Tools, tool: u32) -> Option<u32>
     ensures { result ≡ diameter_of table.now n declared tool }
 {
     if !declared.has(tool) {
-        return DiameterAnswer::Refused(NOT_DECLARED, 0);
+        return None;
     }
-    query::diameter(table, n, tool)
+    query::diameter(table, n, tool).ok()
 }
 
-// A tool's line, none where it has no diameter.
-fn put_tool(text: &mut [u8], at: usize, tool: u32, answer: DiameterAnswer) -> usize
-    ensures { Wrote text.old at (tool_line tool answer) text.new result }
+// The lines of the tools that have a diameter, by number. What puts one gets the tool and its diameter.
+pub(crate) fn put_each_tool<F: Fn(&mut [u8], usize, u32, u32) -> usize>(
+    text: &mut [u8],
+    at: usize,
+    table: &[i32],
+    n: usize,
+    declared: Tools,
+    put: F,
+) -> usize
+    requires { TakesTools (F.pre put) }
+    ensures { (line : ℕ → ℕ → List ℕ) → PutsTools (F.post put) line → Wrote text.old at (lines_of_tools line (diameter_of table.now n declared) max_tool) text.new result }
 {
-    match answer {
-        DiameterAnswer::Is(diameter) => {
-            let fields = [tool as u64, diameter as u64];
-            print::put_numbers_line(text, at, b"tool", &fields)
+    let mut end = at;
+    for tool in 1..=MAX_TOOL {
+        if let Some(diameter) = diameter_of(table, n, declared, tool) {
+            end = put(text, end, tool, diameter);
         }
-        DiameterAnswer::Refused(_, _) => at,
     }
+    end
+}
+
+// The line of a tool.
+#[tactic(auto, unfolding(print::specs::Line::decimals))]
+fn put_tool(text: &mut [u8], at: usize, tool: u32, diameter: u32) -> usize
+    ensures { Wrote text.old at (holes_line tool diameter) text.new result }
+{
+    print::put_numbers_line(text, at, b"tool", &[u64::from(tool), u64::from(diameter)])
 }
 
 // The declared tools, by number.
@@ -57,30 +75,20 @@ pub(crate) fn put_tools(
     n: usize,
     declared: Tools,
 ) -> usize
-    ensures { Wrote text.old at (lines_of_tools (line_of_tool table.now n declared) max_tool) text.new result }
+    ensures { Wrote text.old at (lines_of_tools holes_line (diameter_of table.now n declared) max_tool) text.new result }
 {
-    let mut end = at;
-    let mut tool = 1;
-    while tool <= MAX_TOOL {
-        let answer = diameter_of(table, n, declared, tool);
-        end = put_tool(text, end, tool, answer);
-        tool += 1;
-    }
-    end
+    put_each_tool(text, at, table, n, declared, put_tool)
 }
 
 // The hole of a line, if it makes one.
 fn put_line(text: &mut [u8], at: usize, table: &[i32], n: usize, line: usize) -> Lines
     ensures { Wrote text.old at (hole_line line (hole_answer table.now n line)) text.new result.end × (result.holes ≡ one_hole (hole_answer table.now n line)) × (result.holes ≤ 1) }
 {
-    match query::hole(table, n, line) {
-        HoleAnswer::Makes(hole) => {
-            let end = print::put_hole_line(text, at, line, hole);
-            Lines { end: end, holes: 1 }
-        }
-        HoleAnswer::Nothing => Lines { end: at, holes: 0 },
-        HoleAnswer::Refused(_, _) => Lines { end: at, holes: 0 },
-    }
+    let Ok(Some(hole)) = query::hole(table, n, line) else {
+        return Lines { end: at, holes: 0 };
+    };
+    let end = print::put_hole_line(text, at, line, hole);
+    Lines { end, holes: 1 }
 }
 
 // The holes by line.
@@ -88,16 +96,11 @@ pub(crate) fn put_lines(text: &mut [u8], at: usize, table: &[i32], n: usize) -> 
     ensures { Wrote text.old at (lines_text table.now n 0 n) text.new result.end × (result.holes ≡ holes_in table.now n 0 n) }
 {
     let mut end = at;
-    let mut holes: usize = 0;
-    let mut i: usize = 0;
-    while i < n {
+    let mut holes = 0;
+    for i in 0..n {
         let line = put_line(text, end, table, n, i + 1);
         end = line.end;
         holes += line.holes;
-        i += 1;
     }
-    Lines {
-        end: end,
-        holes: holes,
-    }
+    Lines { end, holes }
 }

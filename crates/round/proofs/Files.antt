@@ -9,19 +9,20 @@ use native.Mathlib.Omega.{arith}
 use borrow.Author.Tests.{le-leb}
 use lib.Dec.{ltb}
 use lib.ListN.{length, length-append}
+use Rattle.std.specs.Prelude.{Ok}
 use Rattle.lists.proofs.Choice.{cond_all}
 use Rattle.runs.specs.Machine.{yields, accepted, last_of, nil, link, Follows, StepBy}
 use Rattle.runs.proofs.Chains.{follows_head, follows_tail}
 use Rattle.runs.proofs.Append.{Reads, reads_run}
 use Rattle.rules.specs.declared.Command.{Command}
 use Rattle.rules.specs.declared.State.{State}
-use Rattle.rules.specs.declared.Next.TheVariants.{To}
 use Rattle.rules.specs.declared.Revision.{Revision}
+use Rattle.rules.specs.Results.{out_of}
 use Rattle.rules.specs.Refusals.{wrong_phase, ends_too_soon}
 use Rattle.rules.specs.Numbers.{max_file, max_lines}
 use Rattle.rules.specs.Lines.{LF, Line, lines_of}
 use Rattle.rules.specs.Kinds.{is_comment}
-use Rattle.rules.specs.State.{over, start, need, step, out_of, taken, has_ended}
+use Rattle.rules.specs.State.{over, start, need, step, taken, has_ended}
 use Rattle.rules.specs.Reading.{Rows, command_in, run_of, file_of}
 use Rattle.rules.specs.Writing.{spelt, line_text, longest_line, text_of_rows}
 use Rattle.laws.proofs.InRange.{RowsOk}
@@ -63,7 +64,7 @@ comment_stays : (p q : State) (c : Command) → is_comment c ≡ true → taken 
 unfolding step need
 comment_stays p q c e t = go (ltb p.phase over) (rw (comment_is c e) at t)
   where
-    go : (b : Bool) → out_of (need b wrong_phase (To p)) ≡ yields q → q ≡ p
+    go : (b : Bool) → out_of (need b wrong_phase (Ok p)) ≡ yields q → q ≡ p
     go true f = cc
     go false f = cc
 

@@ -1,6 +1,5 @@
 pub mod Same
 pub mod Said
-pub mod Tests
 pub mod Revisions
 pub mod Columns
 pub mod Ranges

@@ -1,13 +1,9 @@
 -- Document 01, "The answers": the number and the values of each answer.
-use Rattle.std.specs.Prelude.{List, [], ◌∷◌, ℕ, ℤ, pos, nat_abs}
+use Rattle.std.specs.Prelude.{List, [], ◌∷◌, ℕ, ℤ, pos, nat_abs, Some, None, Ok, Err}
+use Rattle.rules.specs.Refusals.{refusal_number, refusal_column}
+use Rattle.rules.specs.Results.{Answer, DiameterAnswer, HoleAnswer}
 use Rattle.rules.specs.declared.Hole.{Hole}
 use Rattle.rules.specs.declared.Refusal.{Refusal}
-use Rattle.rules.specs.declared.Answer.{Answer}
-use Rattle.rules.specs.declared.Answer.TheVariants as A
-use Rattle.rules.specs.declared.HoleAnswer.{HoleAnswer}
-use Rattle.rules.specs.declared.HoleAnswer.TheVariants as H
-use Rattle.rules.specs.declared.DiameterAnswer.{DiameterAnswer}
-use Rattle.rules.specs.declared.DiameterAnswer.TheVariants as D
 
 -- what is answered: on success values, and the number is 0; else the refusal's number, its line and its column
 pub data Said : Type 0 where
@@ -30,12 +26,12 @@ column_of (success vs) = 0
 column_of (refusal e i c) = c
 
 abbrev pub refused : Refusal → ℕ → Said
-refused e i = refusal e.number i e.column
+refused e i = refusal (refusal_number e) i (refusal_column e)
 
 -- read, edit and write: one count
 abbrev pub said : Answer → Said
-said (A.Done n) = success (pos n ∷ [])
-said (A.Refused e i) = refused e i
+said (Ok n) = success (pos n ∷ [])
+said (Err r) = refused r.refusal r.line
 
 -- a hole's numbers: kind, tool, start, end, radius
 unfoldable pub hole_numbers : Hole → List ℤ
@@ -43,11 +39,11 @@ hole_numbers h = pos h.kind ∷ pos h.tool ∷ h.start.x ∷ h.start.y ∷ h.end
 
 -- the hole query: the hole, or none
 abbrev pub hole_said : HoleAnswer → Said
-hole_said (H.Makes h) = success (hole_numbers h)
-hole_said H.Nothing = success []
-hole_said (H.Refused e i) = refused e i
+hole_said (Ok (Some h)) = success (hole_numbers h)
+hole_said (Ok None) = success []
+hole_said (Err r) = refused r.refusal r.line
 
 -- a tool's diameter
 abbrev pub diameter_said : DiameterAnswer → Said
-diameter_said (D.Is d) = success (pos d ∷ [])
-diameter_said (D.Refused e i) = refused e i
+diameter_said (Ok d) = success (pos d ∷ [])
+diameter_said (Err r) = refused r.refusal r.line

@@ -1,16 +1,11 @@
 -- Document 01, "The answers", hole query; and "Holes": a tool's diameter, looked up from its declaration.
-use Rattle.std.specs.Prelude.{cond, List, [], ◌∷◌, ℕ, ◌+◌, ◌-◌, eqb, ℤ}
+use Rattle.std.specs.Prelude.{cond, List, [], ◌∷◌, ℕ, ◌+◌, ◌-◌, eqb, ℤ, Option, Some, None, Ok}
 use Rattle.runs.specs.Machine.{Entry, holds, bad}
 use Rattle.runs.specs.Machine as M
 use Rattle.rules.specs.declared.Command.{Command}
 use Rattle.rules.specs.declared.Command.TheVariants.{Comment, M48, Metric, Inch, Declare, Percent, G05, G00, Select, Hit, M15, M16, G01, G02, G03, M30}
 use Rattle.rules.specs.declared.State.{State}
-use Rattle.rules.specs.declared.HoleAnswer.{HoleAnswer}
-use Rattle.rules.specs.declared.HoleAnswer.TheVariants as H
-use Rattle.rules.specs.declared.Declared.{Declared}
-use Rattle.rules.specs.declared.Declared.TheVariants.{Diameter, Other}
-use Rattle.rules.specs.declared.DiameterAnswer.{DiameterAnswer}
-use Rattle.rules.specs.declared.DiameterAnswer.TheVariants.{Is, Refused}
+use Rattle.rules.specs.Results.{DiameterAnswer, HoleAnswer, refused_at}
 use Rattle.rules.specs.Refusals.{no_such_line, no_such_tool, bad_table, not_declared}
 use Rattle.rules.specs.Numbers.{is_tool}
 use Rattle.rules.specs.Rows.{entries_of, sizes_fit}
@@ -24,43 +19,43 @@ on_row (holds r) z f = f r
 
 unfoldable pub hole_in : List (Entry Command State) → ℕ → HoleAnswer
 hole_in es k =
-    on_before (before_line k (entry_at es (k - 1))) (H.Refused bad_table (k - 1))
-    (λ p. on_row (entry_at es k) (H.Refused bad_table k) (λ r. hole_of p.at r.command r.state))
+    on_before (before_line k (entry_at es (k - 1))) (refused_at bad_table (k - 1))
+    (λ p. on_row (entry_at es k) (refused_at bad_table k) (λ r. hole_of p.at r.command r.state))
 
 unfoldable pub hole_answer : List ℤ → ℕ → ℕ → HoleAnswer
 hole_answer t n k =
-    cond (sizes_fit t n) (cond (is_line n k) (hole_in (entries_of n t) k) (H.Refused no_such_line 0)) (H.Refused bad_table 0)
+    cond (sizes_fit t n) (cond (is_line n k) (hole_in (entries_of n t) k) (refused_at no_such_line 0)) (refused_at bad_table 0)
 
 -- the diameter that a command declares for tool t
-unfoldable pub declared_by : ℕ → Command → Declared
-declared_by t Comment = Other
-declared_by t M48 = Other
-declared_by t Metric = Other
-declared_by t Inch = Other
-declared_by t (Declare u d) = cond (eqb u t) (Diameter d) Other
-declared_by t Percent = Other
-declared_by t G05 = Other
-declared_by t (G00 p) = Other
-declared_by t (Select u) = Other
-declared_by t (Hit p) = Other
-declared_by t M15 = Other
-declared_by t M16 = Other
-declared_by t (G01 p) = Other
-declared_by t (G02 a) = Other
-declared_by t (G03 a) = Other
-declared_by t M30 = Other
+unfoldable pub declared_by : ℕ → Command → Option ℕ
+declared_by t Comment = None
+declared_by t M48 = None
+declared_by t Metric = None
+declared_by t Inch = None
+declared_by t (Declare u d) = cond (eqb u t) (Some d) None
+declared_by t Percent = None
+declared_by t G05 = None
+declared_by t (G00 p) = None
+declared_by t (Select u) = None
+declared_by t (Hit p) = None
+declared_by t M15 = None
+declared_by t M16 = None
+declared_by t (G01 p) = None
+declared_by t (G02 a) = None
+declared_by t (G03 a) = None
+declared_by t M30 = None
 
-abbrev pub on_declared : Declared → DiameterAnswer → DiameterAnswer
-on_declared (Diameter d) z = Is d
-on_declared Other z = z
+abbrev pub on_declared : Option ℕ → DiameterAnswer → DiameterAnswer
+on_declared (Some d) z = Ok d
+on_declared None z = z
 
 -- rows after i others, each tested, up to the first that declares tool t
 unfoldable pub diameter_in : ℕ → List (Entry Command State) → ℕ → DiameterAnswer
-diameter_in t [] i = Refused not_declared 0
-diameter_in t (bad ∷ es) i = Refused bad_table (i + 1)
+diameter_in t [] i = refused_at not_declared 0
+diameter_in t (bad ∷ es) i = refused_at bad_table (i + 1)
 diameter_in t (holds r ∷ es) i = on_declared (declared_by t r.command) (diameter_in t es (i + 1))
 
 -- ours: 18 at line 0 for the sizes, 7 at line 0 and in no column for a tool not 1 to 99, then the rows, then 10 at line 0
 unfoldable pub diameter_answer : List ℤ → ℕ → ℕ → DiameterAnswer
 diameter_answer t n tool =
-    cond (sizes_fit t n) (cond (is_tool tool) (diameter_in tool (entries_of n t) 0) (Refused no_such_tool 0)) (Refused bad_table 0)
+    cond (sizes_fit t n) (cond (is_tool tool) (diameter_in tool (entries_of n t) 0) (refused_at no_such_tool 0)) (refused_at bad_table 0)

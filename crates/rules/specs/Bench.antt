@@ -1,12 +1,11 @@
 -- Document 01, "The bench file": its bytes, its print-out, its table's text, and the edits of its proved set.
-use Rattle.std.specs.Prelude.{List, [], ◌∷◌, ℕ, zero, suc, ◌*◌, ℤ, pos}
+use Rattle.std.specs.Prelude.{List, [], ◌∷◌, ℕ, zero, suc, ◌*◌, ℤ, pos, Ok}
 use Rattle.lists.specs.Words.{bytes}
 use Rattle.runs.specs.Machine.{on_verdict}
 use Rattle.rules.specs.declared.Revision.TheVariants.{Rev2021}
-use Rattle.rules.specs.declared.Answer.{Answer}
-use Rattle.rules.specs.declared.Answer.TheVariants.{Done, Refused}
 use Rattle.rules.specs.declared.Counts.{Counts}
-use Rattle.rules.specs.Refusals.{refusal}
+use Rattle.rules.specs.Results.{Answer, refused_at}
+use Rattle.rules.specs.Refusals.{ends_too_soon, impossible_arc, not_declared, wrong_motion, wrong_phase}
 use Rattle.rules.specs.Rows.{row_width}
 use Rattle.rules.specs.Reading.{Rows, file_of, read_leaves}
 use Rattle.rules.specs.Counting.{read_counts}
@@ -54,18 +53,18 @@ case k l a = record { line = k; text = l; answer = a }
 -- a to l
 abbrev pub cases : List Case
 cases =
-    case 3 (bytes "T01C0.6") (Done 3)
-    ∷ case 3 (bytes "T02C0.5") (Refused (refusal 10) 7)
-    ∷ case 2 (bytes "INCH") (Done 15)
-    ∷ case 6 (bytes ";") (Refused (refusal 12) 8)
-    ∷ case 8 (bytes "X2Y3") (Done 8)
-    ∷ case 9 (bytes ";") (Done 15)
-    ∷ case 12 (bytes "G01X4Y1") (Done 13)
-    ∷ case 13 (bytes "G03X8Y0A2") (Done 15)
-    ∷ case 13 (bytes "G03X8Y0A1.9") (Refused (refusal 13) 13)
-    ∷ case 15 (bytes ";") (Refused (refusal 14) 16)
-    ∷ case 11 (bytes "M30") (Refused (refusal 8) 12)
-    ∷ case 12 (bytes "G01X4Y0") (Done 12)
+    case 3 (bytes "T01C0.6") (Ok 3)
+    ∷ case 3 (bytes "T02C0.5") (refused_at not_declared 7)
+    ∷ case 2 (bytes "INCH") (Ok 15)
+    ∷ case 6 (bytes ";") (refused_at wrong_motion 8)
+    ∷ case 8 (bytes "X2Y3") (Ok 8)
+    ∷ case 9 (bytes ";") (Ok 15)
+    ∷ case 12 (bytes "G01X4Y1") (Ok 13)
+    ∷ case 13 (bytes "G03X8Y0A2") (Ok 15)
+    ∷ case 13 (bytes "G03X8Y0A1.9") (refused_at impossible_arc 13)
+    ∷ case 15 (bytes ";") (refused_at ends_too_soon 16)
+    ∷ case 11 (bytes "M30") (refused_at wrong_phase 12)
+    ∷ case 12 (bytes "G01X4Y0") (Ok 12)
     ∷ []
 
 -- what document 01 answers, and what the definition answers

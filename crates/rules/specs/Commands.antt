@@ -1,7 +1,7 @@
 -- Document 01, "Command kinds": which line has which form, and which command a form means. The form of the whole line
 -- is decided before any range. By document 02's #102 the form of a declaration depends on the revision, and no other does; by its #106
 -- a number out of range is refused in its column; by its #104 an arc holds the decimals that are written in its radius.
-use Rattle.std.specs.Prelude.{Bool, true, false, ◌&&◌, not, cond, List, [], ◌∷◌, ℕ, suc, ◌+◌, leb, eqb, length, drop}
+use Rattle.std.specs.Prelude.{Ok, Err, Bool, true, false, ◌&&◌, not, cond, List, [], ◌∷◌, ℕ, suc, ◌+◌, leb, eqb, length, drop}
 use Prim.Native.Char.{code}
 use Rattle.lists.specs.Words.{bytes, starts_with}
 use Rattle.rules.specs.declared.Command.{Command}
@@ -12,7 +12,7 @@ use Rattle.rules.specs.declared.Revision.{Revision}
 use Rattle.rules.specs.declared.Revision.TheVariants.{Rev2019, Rev2021}
 use Rattle.rules.specs.declared.Refusal.{Refusal}
 use Rattle.rules.specs.declared.LineAnswer.{LineAnswer}
-use Rattle.rules.specs.Refusals.{no_refusal, line_too_long, forbidden_byte, no_such_form, out_of_range}
+use Rattle.rules.specs.Refusals.{line_too_long, forbidden_byte, no_such_form, out_of_range}
 use Rattle.rules.specs.Numbers.{max_line, DigitRun, digits_of, Decimal, on_number, unsigned_of, signed_of, millionths, is_coordinate, coordinate_of, is_size, is_tool}
 use Rattle.rules.specs.Lines.{is_printable, allowed_bytes}
 
@@ -127,10 +127,10 @@ tool_column = 2
 -- ---- what a form means: the command, or that a number is out of range. Numbers are asked from left to right
 
 abbrev pub says : Command → LineAnswer
-says c = record { refusal = no_refusal; command = c }
+says c = record { command = Ok c }
 
 abbrev pub says_no : Refusal → LineAnswer
-says_no e = record { refusal = e; command = Comment }
+says_no e = record { command = Err e }
 
 abbrev pub point_of : Decimal → Decimal → Point
 point_of x y = record { x = coordinate_of x; y = coordinate_of y }

@@ -1,12 +1,11 @@
 -- Document 02, #103: how many hits and how many routs each tool makes. One count for each tool from 1 to 99 stands beside the table.
-use Rattle.std.specs.Prelude.{Bool, true, ◌&&◌, cond, List, [], ◌∷◌, ℕ, zero, suc, ◌+◌, ◌-◌, leb, eqb, ℤ, length, get_or}
+use Rattle.std.specs.Prelude.{Bool, true, ◌&&◌, cond, List, [], ◌∷◌, ℕ, zero, suc, ◌+◌, ◌-◌, leb, eqb, ℤ, length, get_or, Ok}
 use Rattle.runs.specs.Machine.{on_verdict}
 use Rattle.rules.specs.declared.Command.{Command}
 use Rattle.rules.specs.declared.Revision.{Revision}
-use Rattle.rules.specs.declared.Answer.{Answer}
-use Rattle.rules.specs.declared.Answer.TheVariants.{Done, Refused}
 use Rattle.rules.specs.declared.Way.{Way}
 use Rattle.rules.specs.declared.Counts.{Counts}
+use Rattle.rules.specs.Results.{Answer, refused_at}
 use Rattle.rules.specs.Refusals.{no_such_tool}
 use Rattle.rules.specs.Numbers.{max_tool, is_tool}
 use Rattle.rules.specs.Kinds as Kinds
@@ -89,7 +88,7 @@ counts_after old new c = record { hits = replaced hits old new c.hits; routs = r
 -- ---- the question: the hits, or the routs, of a tool; 7 at line 0 for a tool not 1 to 99
 
 abbrev pub count_of : List ℕ → ℕ → Answer
-count_of l tool = cond (is_tool tool) (Done (of_tool l tool)) (Refused no_such_tool 0)
+count_of l tool = cond (is_tool tool) (Ok (of_tool l tool)) (refused_at no_such_tool 0)
 
 unfoldable pub hits_answer : Counts → ℕ → Answer
 hits_answer c tool = count_of c.hits tool

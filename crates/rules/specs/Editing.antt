@@ -1,17 +1,14 @@
 -- Document 01, "The answers", edit: line k of a table of n rows gets the bytes l. For every table, good or not. The caller chooses the
 -- revision by which the new line is read; a table has none. By document 02's #103 the caller hands in the counts, c.
-use Rattle.std.specs.Prelude.{Bool, true, not, ◌&&◌, cond, List, [], ◌∷◌, ℕ, ◌-◌, ◌*◌, leb, eqb, ℤ, length, get_or, take, drop}
+use Rattle.std.specs.Prelude.{Bool, true, not, ◌&&◌, cond, List, [], ◌∷◌, ℕ, ◌-◌, ◌*◌, leb, eqb, ℤ, length, get_or, take, drop, Option, Some, None, Ok}
 use Rattle.lists.specs.Put.{put_at}
 use Rattle.runs.specs.Machine.{on_out, Verdict, accepted, refused, on_verdict, Entry, holds, bad, whole_rows, Span, rerun}
 use Rattle.rules.specs.declared.Command.{Command}
 use Rattle.rules.specs.declared.State.{State}
 use Rattle.rules.specs.declared.Refusal.{Refusal}
 use Rattle.rules.specs.declared.Revision.{Revision}
-use Rattle.rules.specs.declared.Before.{Before}
-use Rattle.rules.specs.declared.Before.TheVariants.{From, Bad}
-use Rattle.rules.specs.declared.Answer.{Answer}
-use Rattle.rules.specs.declared.Answer.TheVariants.{Done, Refused}
 use Rattle.rules.specs.declared.Counts.{Counts}
+use Rattle.rules.specs.Results.{Answer, refused_at}
 use Rattle.rules.specs.Refusals.{ends_too_soon, no_such_line, holds_line_end, bad_table}
 use Rattle.rules.specs.Lines.{LF, CR}
 use Rattle.rules.specs.Commands.{line_of}
@@ -34,17 +31,17 @@ abbrev pub entry_at : List (Entry Command State) → ℕ → Entry Command State
 entry_at es k = get_or es (k - 1) bad
 
 -- the state that a row leaves, as the row is found
-abbrev pub state_in : Entry Command State → Before
-state_in (holds r) = From r.state
-state_in bad = Bad
+abbrev pub state_in : Entry Command State → Option State
+state_in (holds r) = Some r.state
+state_in bad = None
 
 -- the state before line k, given the row before it as that is found; before line 1 it is the start
-unfoldable pub before_line : ℕ → Entry Command State → Before
-before_line k e = cond (leb k 1) (From start) (state_in e)
+unfoldable pub before_line : ℕ → Entry Command State → Option State
+before_line k e = cond (leb k 1) (Some start) (state_in e)
 
-abbrev pub on_before {ℓ} : {A : Type ℓ} → Before → A → (State → A) → A
-on_before (From p) z f = f p
-on_before Bad z f = z
+abbrev pub on_before {ℓ} : {A : Type ℓ} → Option State → A → (State → A) → A
+on_before (Some p) z f = f p
+on_before None z f = z
 
 -- rows after i others, rerun from state p
 abbrev pub rerun_from : State → List (Entry Command State) → ℕ → Verdict (Span Command State) Refusal
@@ -70,8 +67,8 @@ edit_of rev t n k l =
 
 -- the meeting line, or the refusal and its line
 abbrev pub meeting_of : Verdict (Span Command State) Refusal → Answer
-meeting_of (accepted s) = Done s.meeting
-meeting_of (refused e i) = Refused e i
+meeting_of (accepted s) = Ok s.meeting
+meeting_of (refused e i) = refused_at e i
 
 -- where the edit would meet, whatever the counts: a question, which changes nothing
 unfoldable pub meeting_answer : Revision → List ℤ → ℕ → ℕ → List ℕ → Answer

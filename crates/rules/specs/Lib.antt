@@ -7,6 +7,7 @@ pub mod State
 pub mod Rows
 pub mod Ranges
 pub mod Holes
+pub mod Results
 pub mod Answers
 pub mod Reading
 pub mod Counting

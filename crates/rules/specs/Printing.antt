@@ -1,16 +1,14 @@
 -- Document 01, "The bench file": the lines that the program prints for a file's bytes. Fields are parted by tabs. By document 02's #106 a
 -- refused file's line has the column as its fourth field.
-use Rattle.std.specs.Prelude.{cond, List, [], ◌∷◌, ◌++◌, ℕ, zero, suc, ◌+◌, ◌-◌, ◌/◌, ltb, eqb, ℤ, pos, negsuc}
+use Rattle.std.specs.Prelude.{cond, List, [], ◌∷◌, ◌++◌, ℕ, zero, suc, ◌+◌, ◌-◌, ◌/◌, ltb, eqb, ℤ, pos, negsuc, Some, None, Ok, Err}
+use Rattle.rules.specs.Refusals.{refusal_number, refusal_column}
+use Rattle.rules.specs.Results.{DiameterAnswer, HoleAnswer}
 use Rattle.lists.specs.Words.{bytes}
 use Rattle.runs.specs.Machine.{on_verdict, all_hold, last_of}
 use Rattle.rules.specs.declared.State.{State}
 use Rattle.rules.specs.declared.Refusal.{Refusal}
 use Rattle.rules.specs.declared.Revision.{Revision}
 use Rattle.rules.specs.declared.Hole.{Hole}
-use Rattle.rules.specs.declared.HoleAnswer.{HoleAnswer}
-use Rattle.rules.specs.declared.HoleAnswer.TheVariants.{Makes, Nothing, Refused}
-use Rattle.rules.specs.declared.DiameterAnswer.{DiameterAnswer}
-use Rattle.rules.specs.declared.DiameterAnswer.TheVariants as D
 use Rattle.rules.specs.Numbers.{max_tool}
 use Rattle.rules.specs.Lines.{LF}
 use Rattle.rules.specs.Kinds as Kinds
@@ -49,8 +47,8 @@ unit_line rs = printed_line (bytes "unit") (unit_name (last_of start rs).unit �
 
 -- tools declared, by number, with their diameters: the k last of all
 abbrev pub tool_line : ℕ → DiameterAnswer → List ℕ
-tool_line t (D.Is d) = printed_line (bytes "tool") (decimal t ∷ decimal d ∷ [])
-tool_line t (D.Refused e i) = []
+tool_line t (Ok d) = printed_line (bytes "tool") (decimal t ∷ decimal d ∷ [])
+tool_line t (Err r) = []
 
 unfoldable pub tool_lines : ℕ → Rows → List ℕ
 tool_lines zero rs = []
@@ -66,9 +64,9 @@ hole_fields h =
     ∷ signed_decimal h.end.x ∷ signed_decimal h.end.y ∷ decimal h.radius ∷ []
 
 abbrev pub hole_line : ℕ → HoleAnswer → List ℕ
-hole_line i (Makes h) = printed_line (decimal i) (hole_fields h)
-hole_line i Nothing = []
-hole_line i (Refused e k) = []
+hole_line i (Ok (Some h)) = printed_line (decimal i) (hole_fields h)
+hole_line i (Ok None) = []
+hole_line i (Err r) = []
 
 -- holes by line: rows after i others, from state p
 unfoldable pub hole_lines : State → Rows → ℕ → List ℕ
@@ -76,9 +74,9 @@ hole_lines p [] i = []
 hole_lines p (r ∷ rs) i = hole_line (i + 1) (hole_of p.at r.command r.state) ++ hole_lines r.state rs (i + 1)
 
 abbrev pub one_hole : HoleAnswer → ℕ
-one_hole (Makes h) = 1
-one_hole Nothing = 0
-one_hole (Refused e k) = 0
+one_hole (Ok (Some h)) = 1
+one_hole (Ok None) = 0
+one_hole (Err r) = 0
 
 unfoldable pub hole_count : State → Rows → ℕ
 hole_count p [] = 0
@@ -89,7 +87,7 @@ holes_text rs =
     unit_line rs ++ (tool_lines max_tool rs ++ (hole_lines start rs 0 ++ printed_line (bytes "holes") (decimal (hole_count start rs) ∷ [])))
 
 unfoldable pub refused_text : Refusal → ℕ → List ℕ
-refused_text e i = printed_line (bytes "refused") (decimal e.number ∷ decimal i ∷ decimal e.column ∷ [])
+refused_text e i = printed_line (bytes "refused") (decimal (refusal_number e) ∷ decimal i ∷ decimal (refusal_column e) ∷ [])
 
 unfoldable pub printed : Revision → List ℕ → List ℕ
 printed rev bs = on_verdict (file_of rev bs) refused_text holes_text
@@ -97,8 +95,8 @@ printed rev bs = on_verdict (file_of rev bs) refused_text holes_text
 -- ---- the program `counts` (document 02, #103): each tool declared, by number, with its diameter, its hits and its routs
 
 abbrev pub counts_line : ℕ → DiameterAnswer → ℕ → ℕ → List ℕ
-counts_line t (D.Is d) h r = printed_line (decimal t) (decimal d ∷ decimal h ∷ decimal r ∷ [])
-counts_line t (D.Refused e i) h r = []
+counts_line t (Ok d) h r = printed_line (decimal t) (decimal d ∷ decimal h ∷ decimal r ∷ [])
+counts_line t (Err r') h r = []
 
 -- the k last of all
 unfoldable pub counts_lines : ℕ → Rows → List ℕ

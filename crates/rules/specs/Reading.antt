@@ -1,7 +1,7 @@
 -- Document 01, "The answers", read: the verdict on a file's bytes, and the lent numbers afterwards. The caller chooses the revision.
-use Rattle.std.specs.Prelude.{Bool, cond, List, ℕ, ◌-◌, ◌/◌, leb, eqb, ℤ, length, get_or}
+use Rattle.std.specs.Prelude.{Bool, cond, List, ℕ, ◌-◌, ◌/◌, leb, ℤ, length, get_or, Ok}
 use Rattle.lists.specs.Put.{put_at}
-use Rattle.runs.specs.Machine.{Out, yields, stops, Verdict, refused, on_verdict, run}
+use Rattle.runs.specs.Machine.{Out, Verdict, refused, on_verdict, run}
 use Rattle.runs.specs.Machine as M
 use Rattle.runs.specs.Agreement.{state_after}
 use Rattle.rules.specs.declared.Command.{Command}
@@ -10,8 +10,7 @@ use Rattle.rules.specs.declared.State.{State}
 use Rattle.rules.specs.declared.Refusal.{Refusal}
 use Rattle.rules.specs.declared.Revision.{Revision}
 use Rattle.rules.specs.declared.LineAnswer.{LineAnswer}
-use Rattle.rules.specs.declared.Answer.{Answer}
-use Rattle.rules.specs.declared.Answer.TheVariants.{Done, Refused}
+use Rattle.rules.specs.Results.{out_of, Answer, refused_at}
 use Rattle.rules.specs.Refusals.{file_too_long, too_many_lines, line_not_ended, ends_too_soon, no_room}
 use Rattle.rules.specs.Numbers.{max_file, max_lines}
 use Rattle.rules.specs.Lines.{Line, lines_of, text_of}
@@ -20,7 +19,7 @@ use Rattle.rules.specs.State.{start, taken, has_ended}
 use Rattle.rules.specs.Rows.{row_width, table_numbers}
 
 abbrev pub say_out : LineAnswer → Out Command Refusal
-say_out a = cond (eqb a.refusal.number 0) (yields a.command) (stops a.refusal)
+say_out a = out_of a.command
 
 -- line i of a file: 2 before anything else about it, then 3, then the line's own
 unfoldable pub answer_in : Revision → ℕ → Line → LineAnswer
@@ -58,10 +57,10 @@ unfoldable pub has_room : List ℤ → ℕ → Bool
 has_room t n = leb n (length t / row_width)
 
 abbrev pub in_room : List ℤ → Rows → Answer
-in_room t rs = cond (has_room t (length rs)) (Done (length rs)) (Refused no_room 0)
+in_room t rs = cond (has_room t (length rs)) (Ok (length rs)) (refused_at no_room 0)
 
 unfoldable pub read_answer : Revision → List ℕ → List ℤ → Answer
-read_answer rev bs t = on_verdict (file_of rev bs) Refused (in_room t)
+read_answer rev bs t = on_verdict (file_of rev bs) refused_at (in_room t)
 
 -- the lent numbers afterwards: the rows from the first on, and all beyond as it was; on refusal as they were
 abbrev pub with_rows : List ℤ → Rows → List ℤ

@@ -1,6 +1,6 @@
 -- Document 01, "A row": its numbers, which of them a row may have, and when a table is good. By document 02's #104 a row has a
 -- sixteenth number, the decimals written in the radius. It is one of the command's, and stands last.
-use Rattle.std.specs.Prelude.{◌≡◌, Bool, true, false, cond, ◌&&◌, List, [], ◌∷◌, ◌++◌, ℕ, zero, suc, ◌*◌, ◌/◌, ◌%◌, ◌≤◌, leb, eqb, ℤ, pos, negsuc, nat_abs, length, get_or, take, drop}
+use Rattle.std.specs.Prelude.{◌≡◌, Bool, true, false, cond, ◌&&◌, List, [], ◌∷◌, ◌++◌, ℕ, zero, suc, ◌*◌, ◌/◌, ◌%◌, ◌≤◌, leb, eqb, ℤ, pos, negsuc, nat_abs, length, get_or, take, drop, Some, None}
 use Rattle.runs.specs.Machine as M
 use Rattle.runs.specs.Machine.{Entry, holds, bad, all_hold, last_of, Follows, StepBy}
 use Rattle.points.specs.declared.Point.{Point}
@@ -8,8 +8,7 @@ use Rattle.points.specs.Points.{place_of}
 use Rattle.rules.specs.declared.Command.{Command}
 use Rattle.rules.specs.declared.Command.TheVariants.{Comment, M48, Metric, Inch, Declare, Percent, G05, G00, Select, Hit, M15, M16, G01, G02, G03, M30}
 use Rattle.rules.specs.declared.State.{State}
-use Rattle.rules.specs.declared.Looked.{Looked}
-use Rattle.rules.specs.declared.Looked.TheVariants.{Holds, Bad}
+use Rattle.rules.specs.Results.{Looked, row_found}
 use Rattle.rules.specs.Numbers.{max_lines, max_number, max_tool, max_places}
 use Rattle.rules.specs.Kinds.{kind_of, carries_tool, carries_point, carries_radius, carries_size}
 use Rattle.rules.specs.Kinds as Kinds
@@ -175,13 +174,13 @@ state_at a = record {
 
 -- a row's numbers looked at
 unfoldable pub look_of : List ℤ → Looked
-look_of a = cond (row_test a) (Holds (command_at a) (state_at a)) Bad
+look_of a = cond (row_test a) (row_found (command_at a) (state_at a)) None
 
 -- ---- a table of n rows
 
 abbrev pub entry_of : Looked → Entry Command State
-entry_of (Holds c s) = holds (record { command = c; state = s })
-entry_of Bad = bad
+entry_of (Some r) = holds (record { command = r.command; state = r.state })
+entry_of None = bad
 
 -- its rows as they are found
 unfoldable pub entries_of : ℕ → List ℤ → List (Entry Command State)

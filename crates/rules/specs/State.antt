@@ -1,7 +1,7 @@
 -- Document 01, "The state, line by line": what each command needs, and the state it leaves. The tests of a command stand
 -- in the order of the refusals: phase, motion, tool, arc.
-use Rattle.std.specs.Prelude.{ℕ, eqb, ltb, Bool, true, false, not, ◌&&◌}
-use Rattle.runs.specs.Machine.{Out, yields, stops}
+use Rattle.std.specs.Prelude.{ℕ, eqb, ltb, Bool, true, false, not, ◌&&◌, Result, Ok, Err}
+use Rattle.runs.specs.Machine.{Out}
 use Rattle.points.specs.declared.Point.{Point}
 use Rattle.points.specs.declared.Arc.{Arc}
 use Rattle.rules.specs.declared.Command.{Command}
@@ -9,8 +9,7 @@ use Rattle.rules.specs.declared.Command.TheVariants.{Comment, M48, Metric, Inch,
 use Rattle.tools.specs.declared.Tools.{Tools}
 use Rattle.rules.specs.declared.State.{State}
 use Rattle.rules.specs.declared.Refusal.{Refusal}
-use Rattle.rules.specs.declared.Next.{Next}
-use Rattle.rules.specs.declared.Next.TheVariants.{To, No}
+use Rattle.rules.specs.Results.{out_of}
 use Rattle.rules.specs.Refusals.{wrong_phase, wrong_motion, declared_already, not_declared, no_tool_selected, impossible_arc}
 use Rattle.points.specs.Points.{origin, same_point, is_possible}
 use Rattle.tools.specs.Set.{no_tools, has, insert, same_tools}
@@ -95,60 +94,60 @@ with_tools d s = record { phase = s.phase; unit = s.unit; motion = s.motion; too
 -- ---- the commands
 
 -- the refusal e where the test fails
-unfoldable pub need : Bool → Refusal → Next → Next
+unfoldable pub need : Bool → Refusal → Result State Refusal → Result State Refusal
 need true e x = x
-need false e x = No e
+need false e x = Err e
 
 -- in every phase but the last
-abbrev pub comment : State → Next
-comment s = need (ltb s.phase over) wrong_phase (To s)
+abbrev pub comment : State → Result State Refusal
+comment s = need (ltb s.phase over) wrong_phase (Ok s)
 
-abbrev pub m48 : State → Next
-m48 s = need (phase_is before_m48 s) wrong_phase (To (in_phase bare_header s))
+abbrev pub m48 : State → Result State Refusal
+m48 s = need (phase_is before_m48 s) wrong_phase (Ok (in_phase bare_header s))
 
-abbrev pub unit : State → ℕ → Next
-unit s u = need (phase_is bare_header s) wrong_phase (To (in_unit u (in_phase header s)))
+abbrev pub unit : State → ℕ → Result State Refusal
+unit s u = need (phase_is bare_header s) wrong_phase (Ok (in_unit u (in_phase header s)))
 
-abbrev pub declare : State → ℕ → Next
-declare s t = need (phase_is header s) wrong_phase (need (not (has s.tools t)) declared_already (To (with_tools (insert s.tools t) s)))
+abbrev pub declare : State → ℕ → Result State Refusal
+declare s t = need (phase_is header s) wrong_phase (need (not (has s.tools t)) declared_already (Ok (with_tools (insert s.tools t) s)))
 
-abbrev pub percent : State → Next
-percent s = need (phase_is header s) wrong_phase (To (in_phase body s))
+abbrev pub percent : State → Result State Refusal
+percent s = need (phase_is header s) wrong_phase (Ok (in_phase body s))
 
-abbrev pub select : State → ℕ → Next
+abbrev pub select : State → ℕ → Result State Refusal
 select s t =
-    need (phase_is body s) wrong_phase (need (not (motion_is tool_down s)) wrong_motion (need (has s.tools t) not_declared (To (with_tool t s))))
+    need (phase_is body s) wrong_phase (need (not (motion_is tool_down s)) wrong_motion (need (has s.tools t) not_declared (Ok (with_tool t s))))
 
-abbrev pub g05 : State → Next
-g05 s = need (phase_is body s) wrong_phase (need (not (motion_is tool_down s)) wrong_motion (To (gone_to origin (in_motion drill s))))
+abbrev pub g05 : State → Result State Refusal
+g05 s = need (phase_is body s) wrong_phase (need (not (motion_is tool_down s)) wrong_motion (Ok (gone_to origin (in_motion drill s))))
 
-abbrev pub g00 : State → Point → Next
-g00 s p = need (phase_is body s) wrong_phase (need (not (motion_is tool_down s)) wrong_motion (To (gone_to p (in_motion tool_up s))))
+abbrev pub g00 : State → Point → Result State Refusal
+g00 s p = need (phase_is body s) wrong_phase (need (not (motion_is tool_down s)) wrong_motion (Ok (gone_to p (in_motion tool_up s))))
 
 -- the point stays
-abbrev pub hit : State → Next
-hit s = need (phase_is body s) wrong_phase (need (motion_is drill s) wrong_motion (need (is_selected s) no_tool_selected (To s)))
+abbrev pub hit : State → Result State Refusal
+hit s = need (phase_is body s) wrong_phase (need (motion_is drill s) wrong_motion (need (is_selected s) no_tool_selected (Ok s)))
 
 -- tool down
-abbrev pub m15 : State → Next
-m15 s = need (phase_is body s) wrong_phase (need (motion_is tool_up s) wrong_motion (need (is_selected s) no_tool_selected (To (in_motion tool_down s))))
+abbrev pub m15 : State → Result State Refusal
+m15 s = need (phase_is body s) wrong_phase (need (motion_is tool_up s) wrong_motion (need (is_selected s) no_tool_selected (Ok (in_motion tool_down s))))
 
 -- tool up
-abbrev pub m16 : State → Next
-m16 s = need (phase_is body s) wrong_phase (need (motion_is tool_down s) wrong_motion (To (in_motion tool_up s)))
+abbrev pub m16 : State → Result State Refusal
+m16 s = need (phase_is body s) wrong_phase (need (motion_is tool_down s) wrong_motion (Ok (in_motion tool_up s)))
 
-abbrev pub g01 : State → Point → Next
-g01 s p = need (phase_is body s) wrong_phase (need (motion_is tool_down s) wrong_motion (To (gone_to p s)))
+abbrev pub g01 : State → Point → Result State Refusal
+g01 s p = need (phase_is body s) wrong_phase (need (motion_is tool_down s) wrong_motion (Ok (gone_to p s)))
 
 -- G02 and G03
-abbrev pub arc : State → Arc → Next
+abbrev pub arc : State → Arc → Result State Refusal
 arc s a =
-    need (phase_is body s) wrong_phase (need (motion_is tool_down s) wrong_motion (need (is_possible s.at a) impossible_arc (To (gone_to a.to s))))
+    need (phase_is body s) wrong_phase (need (motion_is tool_down s) wrong_motion (need (is_possible s.at a) impossible_arc (Ok (gone_to a.to s))))
 
-abbrev pub m30 : State → Next
-m30 s = need (phase_is body s) wrong_phase (need (not (motion_is tool_down s)) wrong_motion (To (in_phase over s)))
+abbrev pub m30 : State → Result State Refusal
+m30 s = need (phase_is body s) wrong_phase (need (not (motion_is tool_down s)) wrong_motion (Ok (in_phase over s)))
 
-unfoldable pub step : State → Command → Next
+unfoldable pub step : State → Command → Result State Refusal
 step s Comment = comment s
 step s M48 = m48 s
 step s Metric = unit s metric_unit
@@ -167,10 +166,6 @@ step s (G03 a) = arc s a
 step s M30 = m30 s
 
 -- ---- XNC as a machine
-
-abbrev pub out_of : Next → Out State Refusal
-out_of (To s) = yields s
-out_of (No e) = stops e
 
 -- one command taken
 abbrev pub taken : State → Command → Out State Refusal

@@ -1,5 +1,5 @@
 -- Document 01, "Writing", and "The answers", write: the text of a table, and the lent bytes afterwards.
-use Rattle.std.specs.Prelude.{cond, List, [], ◌∷◌, ◌++◌, ℕ, zero, suc, ◌+◌, ◌/◌, ◌%◌, ◌^◌, min, leb, ltb, eqb, ℤ, pos, negsuc, length}
+use Rattle.std.specs.Prelude.{cond, List, [], ◌∷◌, ◌++◌, ℕ, zero, suc, ◌+◌, ◌/◌, ◌%◌, ◌^◌, min, leb, ltb, eqb, ℤ, pos, negsuc, length, Ok}
 use Prim.Native.Char.{code}
 use Rattle.lists.specs.Put.{put_at}
 use Rattle.lists.specs.Words.{bytes}
@@ -11,8 +11,7 @@ use Rattle.rules.specs.declared.Command.{Command}
 use Rattle.rules.specs.declared.Command.TheVariants.{Comment, M48, Metric, Inch, Declare, Percent, G05, G00, Select, Hit, M15, M16, G01, G02, G03, M30}
 use Rattle.rules.specs.declared.State.{State}
 use Rattle.rules.specs.declared.Refusal.{Refusal}
-use Rattle.rules.specs.declared.Answer.{Answer}
-use Rattle.rules.specs.declared.Answer.TheVariants.{Done, Refused}
+use Rattle.rules.specs.Results.{Answer, refused_at}
 use Rattle.rules.specs.Refusals.{bad_table, no_room}
 use Rattle.rules.specs.Numbers.{max_places}
 use Rattle.rules.specs.Lines.{LF}
@@ -116,10 +115,10 @@ unfoldable pub rows_of : List ℤ → ℕ → Verdict Rows Refusal
 rows_of t n = cond (sizes_fit t n) (follow_from start (entries_of n t) 0) (refused bad_table 0)
 
 abbrev pub in_block : List ℕ → List ℕ → Answer
-in_block b x = cond (leb (length x) (length b)) (Done (length x)) (Refused no_room 0)
+in_block b x = cond (leb (length x) (length b)) (Ok (length x)) (refused_at no_room 0)
 
 unfoldable pub write_answer : List ℤ → ℕ → List ℕ → Answer
-write_answer t n b = on_verdict (rows_of t n) Refused (λ rs. in_block b (text_of_rows rs))
+write_answer t n b = on_verdict (rows_of t n) refused_at (λ rs. in_block b (text_of_rows rs))
 
 -- the lent bytes afterwards: the text, and all beyond it as it was; on refusal as they were
 abbrev pub with_text : List ℕ → List ℕ → List ℕ

@@ -1,4 +1,5 @@
 // The kinds of commands, by document 01's numbers: a row's first number.
+// Kept: numbers, and no enum: a row holds any number, and print::put_hole_line promises a line for a hole of any kind.
 pub const COMMENT: u32 = 0;
 
 pub const M48: u32 = 1;

@@ -9,7 +9,8 @@ mod steps;
 pub mod unit;
 
 ghost use Rattle.std.specs.Prelude.{◌≡◌};
-ghost use Rattle.rules.specs.Refusals.{in_column, forbidden_byte, out_of_range};
+ghost use Rattle.rules.specs.Refusals.{refusal_number, refusal_column, forbidden_byte, out_of_range};
+ghost use Rattle.rules.specs.Results.{at_line};
 
 use points::{Arc, Point};
 use tools::Tools;
@@ -38,98 +39,8 @@ pub const TABLE_ROOM: usize = ROW_WIDTH * MAX_LINES;
 /// The column of a refusal that names none.
 pub const NO_COLUMN: usize = 0;
 
-// The refusals, in the order in which they are tested. A line that is not refused has NONE. 4 and 7, which name a column, are
-// functions: forbidden_byte and out_of_range.
-pub const NONE: Refusal = Refusal {
-    number: 0,
-    column: NO_COLUMN,
-};
-
-pub const FILE_TOO_LONG: Refusal = Refusal {
-    number: 1,
-    column: NO_COLUMN,
-};
-
-pub const TOO_MANY_LINES: Refusal = Refusal {
-    number: 2,
-    column: NO_COLUMN,
-};
-
-pub const LINE_NOT_ENDED: Refusal = Refusal {
-    number: 3,
-    column: NO_COLUMN,
-};
-
-pub const LINE_TOO_LONG: Refusal = Refusal {
-    number: 6,
-    column: NO_COLUMN,
-};
-
-pub const NO_SUCH_FORM: Refusal = Refusal {
-    number: 5,
-    column: NO_COLUMN,
-};
-
-pub const WRONG_PHASE: Refusal = Refusal {
-    number: 8,
-    column: NO_COLUMN,
-};
-
-pub const WRONG_MOTION: Refusal = Refusal {
-    number: 12,
-    column: NO_COLUMN,
-};
-
-pub const DECLARED_ALREADY: Refusal = Refusal {
-    number: 9,
-    column: NO_COLUMN,
-};
-
-pub const NOT_DECLARED: Refusal = Refusal {
-    number: 10,
-    column: NO_COLUMN,
-};
-
-pub const NO_TOOL_SELECTED: Refusal = Refusal {
-    number: 11,
-    column: NO_COLUMN,
-};
-
-pub const IMPOSSIBLE_ARC: Refusal = Refusal {
-    number: 13,
-    column: NO_COLUMN,
-};
-
-pub const ENDS_TOO_SOON: Refusal = Refusal {
-    number: 14,
-    column: NO_COLUMN,
-};
-
-pub const NO_ROOM: Refusal = Refusal {
-    number: 15,
-    column: NO_COLUMN,
-};
-
-pub const NO_SUCH_LINE: Refusal = Refusal {
-    number: 16,
-    column: NO_COLUMN,
-};
-
-pub const HOLDS_LINE_END: Refusal = Refusal {
-    number: 17,
-    column: NO_COLUMN,
-};
-
 /// 7 for a question's tool, which is in no text.
-pub const NO_SUCH_TOOL: Refusal = Refusal {
-    number: 7,
-    column: NO_COLUMN,
-};
-
-pub const BAD_TABLE: Refusal = Refusal {
-    number: 18,
-    column: NO_COLUMN,
-};
+pub const NO_SUCH_TOOL: Refusal = Refusal::OutOfRange(NO_COLUMN);
 
 /// The revision of XNC by whose rule a line is read. It decides how a declaration is written, and nothing else.
 #[derive(Clone, Copy)]
@@ -160,7 +71,7 @@ pub enum Command {
 }
 
 /// What a line leaves for the next. It starts all zero.
-#[derive(Clone, Copy)]
+#[derive(Clone, Copy, PartialEq, Eq)]
 pub struct State {
     pub phase: u32,
     pub unit: u32,
@@ -170,64 +81,76 @@ pub struct State {
     pub tools: Tools,
 }
 
-/// Why something is refused and, for 4 and 7, in which column of its line; columns count from 1. Callers hand it upward whole.
-#[derive(Clone, Copy)]
-pub struct Refusal {
-    pub number: u32,
-    pub column: usize,
+/// Why something is refused, in the order in which it is tested. 4 and 7 name the column in their line; columns count from 1.
+#[derive(Clone, Copy, PartialEq, Eq)]
+pub enum Refusal {
+    /// 1: the file is over 65,536 bytes.
+    FileTooLong,
+    /// 2: a 1,001st line begins.
+    TooManyLines,
+    /// 3: the line has no LF.
+    LineNotEnded,
+    /// 6: the line is over 256 bytes.
+    LineTooLong,
+    /// 4: a byte outside 32 to 126, the first of them in this column.
+    ForbiddenByte(usize),
+    /// 5: no command has this form.
+    NoSuchForm,
+    /// 7: a number or tool number out of range, or over six decimals; the leftmost begins in this column.
+    OutOfRange(usize),
+    /// 8: the command is not allowed in this phase.
+    WrongPhase,
+    /// 12: the command is not allowed in this motion.
+    WrongMotion,
+    /// 9: the tool is declared already.
+    DeclaredAlready,
+    /// 10: the tool is not declared.
+    NotDeclared,
+    /// 11: no tool is selected.
+    NoToolSelected,
+    /// 13: there is no such arc.
+    ImpossibleArc,
+    /// 14: the lines end before M30.
+    EndsTooSoon,
+    /// 15: what is lent is too short.
+    NoRoom,
+    /// 16: the table has no such line.
+    NoSuchLine,
+    /// 17: the new line holds a CR or LF.
+    HoldsLineEnd,
+    /// 18: the table is not a good one.
+    BadTable,
 }
 
-/// The state after a command, or why the command may not come here.
+/// A refusal and the line that it is given at; 0 where it is no line's.
 #[derive(Clone, Copy)]
-pub enum Next {
-    To(State),
-    No(Refusal),
+pub struct Refused {
+    pub refusal: Refusal,
+    pub line: usize,
 }
 
-/// What a line's bytes say: the command, where the refusal's number is 0.
+/// What a line's bytes say: the command, or why they say none.
+// Kept: a struct, which document 01 names as the form.
 #[derive(Clone, Copy)]
 pub struct LineAnswer {
-    pub refusal: Refusal,
+    pub command: Result<Command, Refusal>,
+}
+
+/// A row of a table: a command, and the state after it.
+#[derive(Clone, Copy)]
+pub struct Row {
     pub command: Command,
-}
-
-/// A row's lent numbers looked at: a row, that is a command and the state after it, or numbers that no row has.
-#[derive(Clone, Copy)]
-pub enum Looked {
-    Holds(Command, State),
-    Bad,
-}
-
-/// The state before a line, or that the row before it fails its test.
-#[derive(Clone, Copy)]
-pub enum Before {
-    From(State),
-    Bad,
-}
-
-/// What a command declares for a tool.
-#[derive(Clone, Copy)]
-pub enum Declared {
-    Diameter(u32),
-    Other,
+    pub state: State,
 }
 
 /// What a hit or a rout takes out of the board. The kind is the command's.
-#[derive(Clone, Copy)]
+#[derive(Clone, Copy, PartialEq, Eq)]
 pub struct Hole {
     pub kind: u32,
     pub tool: u32,
     pub start: Point,
     pub end: Point,
     pub radius: u32,
-}
-
-/// Reading, editing, writing and how often a tool is used: the count (lines, the meeting line, bytes, holes), or the refusal and
-/// its line.
-#[derive(Clone, Copy)]
-pub enum Answer {
-    Done(usize),
-    Refused(Refusal, usize),
 }
 
 /// A way of making holes: the first and the last of its kinds.
@@ -248,40 +171,65 @@ pub const ROUTS: Way = Way {
 };
 
 /// How many hits and how many routs each tool makes, tool 1 first.
+// Kept: two arrays side by side, which document 02's #103 names as the form.
 #[derive(Clone, Copy)]
 pub struct Counts {
     pub hits: [u32; TOOLS],
     pub routs: [u32; TOOLS],
 }
 
-/// What reading or editing answers, and the counts that go with the table afterwards.
+/// What reading or editing answers, the number of lines or the meeting line, and the counts that go with the table afterwards.
 #[derive(Clone, Copy)]
 pub struct Counted {
-    pub answer: Answer,
+    pub answer: Result<usize, Refused>,
     pub counts: Counts,
 }
 
-/// The question for a line's hole.
-#[derive(Clone, Copy)]
-pub enum HoleAnswer {
-    Makes(Hole),
-    Nothing,
-    Refused(Refusal, usize),
-}
+impl Refusal {
+    /// Its number in document 01.
+    pub fn number(self) -> u32
+        ensures { result ≡ refusal_number self }
+    {
+        match self {
+            Self::FileTooLong => 1,
+            Self::TooManyLines => 2,
+            Self::LineNotEnded => 3,
+            Self::LineTooLong => 6,
+            Self::ForbiddenByte(_) => 4,
+            Self::NoSuchForm => 5,
+            Self::OutOfRange(_) => 7,
+            Self::WrongPhase => 8,
+            Self::WrongMotion => 12,
+            Self::DeclaredAlready => 9,
+            Self::NotDeclared => 10,
+            Self::NoToolSelected => 11,
+            Self::ImpossibleArc => 13,
+            Self::EndsTooSoon => 14,
+            Self::NoRoom => 15,
+            Self::NoSuchLine => 16,
+            Self::HoldsLineEnd => 17,
+            Self::BadTable => 18,
+        }
+    }
 
-/// The question for a tool's diameter.
-#[derive(Clone, Copy)]
-pub enum DiameterAnswer {
-    Is(u32),
-    Refused(Refusal, usize),
-}
+    /// The column that it names, or that it names none.
+    pub fn column(self) -> usize
+        ensures { result ≡ refusal_column self }
+    {
+        match self {
+            Self::ForbiddenByte(column) | Self::OutOfRange(column) => column,
+            _ => NO_COLUMN,
+        }
+    }
 
-fn in_column(column: usize, number: u32) -> Refusal
-    ensures { result ≡ in_column column number }
-{
-    Refusal {
-        number: number,
-        column: column,
+    /// The refusal, given at a line.
+    pub fn at(self, line: usize) -> Refused
+        ensures { result ≡ at_line self line }
+    {
+        Refused {
+            refusal: self,
+            line,
+        }
     }
 }
 
@@ -289,12 +237,12 @@ fn in_column(column: usize, number: u32) -> Refusal
 pub fn forbidden_byte(column: usize) -> Refusal
     ensures { result ≡ forbidden_byte column }
 {
-    in_column(column, 4)
+    Refusal::ForbiddenByte(column)
 }
 
 /// 7, in the column of the leftmost number that is out of range.
 pub fn out_of_range(column: usize) -> Refusal
     ensures { result ≡ out_of_range column }
 {
-    in_column(column, 7)
+    Refusal::OutOfRange(column)
 }

@@ -1,16 +1,23 @@
 // The state machine: a method for each command, which tests in the order of the refusals and leaves at the first that fails.
-ghost use Rattle.std.specs.Prelude.{◌≡◌};
+ghost use Rattle.std.specs.Prelude.{◌≡◌, cond, Ok, Err};
 ghost use Rattle.rules.specs.State as S;
 
-use crate::{
-    Command, DECLARED_ALREADY, IMPOSSIBLE_ARC, NO_TOOL_SELECTED, NOT_DECLARED, Next, State,
-    WRONG_MOTION, WRONG_PHASE, motion, phase, unit,
-};
+use crate::{Command, Refusal, State, motion, phase, unit};
 use points::{Arc, Point};
 use tools::Tools;
 
 // No tool is selected.
 const NO_TOOL: u32 = 0;
+
+// What a command needs: the refusal where the test fails.
+fn need(test: bool, refusal: Refusal) -> Result<(), Refusal>
+    ensures { result ≡ cond test (Ok tt) (Err refusal) }
+{
+    if test {
+        return Ok(());
+    }
+    Err(refusal)
+}
 
 impl State {
     /// The state before the first line.
@@ -32,206 +39,161 @@ impl State {
         }
     }
 
-    fn comment(self) -> Next
+    #[tactic(auto, unfolding(crate::specs::State::need))]
+    fn comment(self) -> Result<State, Refusal>
         ensures { result ≡ S.comment self }
     {
-        if self.phase >= phase::OVER {
-            return Next::No(WRONG_PHASE);
-        }
-        Next::To(self)
+        need(self.phase < phase::OVER, Refusal::WrongPhase)?;
+        Ok(self)
     }
 
-    fn m48(mut self) -> Next
+    #[tactic(auto, unfolding(crate::specs::State::need))]
+    fn m48(mut self) -> Result<State, Refusal>
         ensures { result ≡ S.m48 self }
     {
-        if self.phase != phase::BEFORE_M48 {
-            return Next::No(WRONG_PHASE);
-        }
+        need(self.phase == phase::BEFORE_M48, Refusal::WrongPhase)?;
         self.phase = phase::BARE_HEADER;
-        Next::To(self)
+        Ok(self)
     }
 
     // unit::METRIC, which is unit 1, and unit::INCH, which is unit 2.
-    fn unit(mut self, u: u32) -> Next
+    #[tactic(auto, unfolding(crate::specs::State::need))]
+    fn unit(mut self, u: u32) -> Result<State, Refusal>
         ensures { result ≡ S.unit self u }
     {
-        if self.phase != phase::BARE_HEADER {
-            return Next::No(WRONG_PHASE);
-        }
+        need(self.phase == phase::BARE_HEADER, Refusal::WrongPhase)?;
         self.phase = phase::HEADER;
         self.unit = u;
-        Next::To(self)
+        Ok(self)
     }
 
     // A declaration of tool t. Its diameter is kept by its row, not by the state.
-    fn declare(mut self, t: u32) -> Next
+    #[tactic(auto, unfolding(crate::specs::State::need))]
+    fn declare(mut self, t: u32) -> Result<State, Refusal>
         ensures { result ≡ S.declare self t }
     {
-        if self.phase != phase::HEADER {
-            return Next::No(WRONG_PHASE);
-        }
-        let declared = self.tools;
-        if declared.has(t) {
-            return Next::No(DECLARED_ALREADY);
-        }
-        let more = declared.insert(t);
-        self.tools = more;
-        Next::To(self)
+        need(self.phase == phase::HEADER, Refusal::WrongPhase)?;
+        need(!self.tools.has(t), Refusal::DeclaredAlready)?;
+        self.tools = self.tools.insert(t);
+        Ok(self)
     }
 
-    fn percent(mut self) -> Next
+    #[tactic(auto, unfolding(crate::specs::State::need))]
+    fn percent(mut self) -> Result<State, Refusal>
         ensures { result ≡ S.percent self }
     {
-        if self.phase != phase::HEADER {
-            return Next::No(WRONG_PHASE);
-        }
+        need(self.phase == phase::HEADER, Refusal::WrongPhase)?;
         self.phase = phase::BODY;
-        Next::To(self)
+        Ok(self)
     }
 
-    fn select(mut self, t: u32) -> Next
+    #[tactic(auto, unfolding(crate::specs::State::need))]
+    fn select(mut self, t: u32) -> Result<State, Refusal>
         ensures { result ≡ S.select self t }
     {
-        if self.phase != phase::BODY {
-            return Next::No(WRONG_PHASE);
-        }
-        if self.motion == motion::TOOL_DOWN {
-            return Next::No(WRONG_MOTION);
-        }
-        let tools = self.tools;
-        if tools.has(t) {
-            self.tool = t;
-            return Next::To(self);
-        }
-        Next::No(NOT_DECLARED)
+        need(self.phase == phase::BODY, Refusal::WrongPhase)?;
+        need(self.motion != motion::TOOL_DOWN, Refusal::WrongMotion)?;
+        need(self.tools.has(t), Refusal::NotDeclared)?;
+        self.tool = t;
+        Ok(self)
     }
 
     // Drill mode begins at the origin.
-    fn g05(mut self) -> Next
+    #[tactic(auto, unfolding(crate::specs::State::need))]
+    fn g05(mut self) -> Result<State, Refusal>
         ensures { result ≡ S.g05 self }
     {
-        if self.phase != phase::BODY {
-            return Next::No(WRONG_PHASE);
-        }
-        if self.motion == motion::TOOL_DOWN {
-            return Next::No(WRONG_MOTION);
-        }
+        need(self.phase == phase::BODY, Refusal::WrongPhase)?;
+        need(self.motion != motion::TOOL_DOWN, Refusal::WrongMotion)?;
         self.motion = motion::DRILL;
         let origin = Point { x: 0, y: 0 };
         self.at = origin;
-        Next::To(self)
+        Ok(self)
     }
 
     // Rout mode begins at p, with the tool up.
-    fn g00(mut self, p: Point) -> Next
+    #[tactic(auto, unfolding(crate::specs::State::need))]
+    fn g00(mut self, p: Point) -> Result<State, Refusal>
         ensures { result ≡ S.g00 self p }
     {
-        if self.phase != phase::BODY {
-            return Next::No(WRONG_PHASE);
-        }
-        if self.motion == motion::TOOL_DOWN {
-            return Next::No(WRONG_MOTION);
-        }
+        need(self.phase == phase::BODY, Refusal::WrongPhase)?;
+        need(self.motion != motion::TOOL_DOWN, Refusal::WrongMotion)?;
         self.motion = motion::TOOL_UP;
         self.at = p;
-        Next::To(self)
+        Ok(self)
     }
 
     // A hit leaves the point as it is: its own place stands in its row.
-    fn hit(self) -> Next
+    #[tactic(auto, unfolding(crate::specs::State::need))]
+    fn hit(self) -> Result<State, Refusal>
         ensures { result ≡ S.hit self }
     {
-        if self.phase != phase::BODY { // the phase before the motion
-            return Next::No(WRONG_PHASE);
-        }
-        if self.motion != motion::DRILL {
-            return Next::No(WRONG_MOTION);
-        }
-        if self.tool == NO_TOOL { // nothing to drill with
-            return Next::No(NO_TOOL_SELECTED);
-        }
-        Next::To(self)
+        need(self.phase == phase::BODY, Refusal::WrongPhase)?; // the phase before the motion
+        need(self.motion == motion::DRILL, Refusal::WrongMotion)?;
+        need(self.tool != NO_TOOL, Refusal::NoToolSelected)?; // nothing to drill with
+        Ok(self)
     }
 
     // Tool down.
-    fn m15(mut self) -> Next
+    #[tactic(auto, unfolding(crate::specs::State::need))]
+    fn m15(mut self) -> Result<State, Refusal>
         ensures { result ≡ S.m15 self }
     {
-        if self.phase != phase::BODY {
-            return Next::No(WRONG_PHASE);
-        }
-        if self.motion != motion::TOOL_UP {
-            return Next::No(WRONG_MOTION);
-        }
-        if self.tool == NO_TOOL {
-            return Next::No(NO_TOOL_SELECTED);
-        }
+        need(self.phase == phase::BODY, Refusal::WrongPhase)?;
+        need(self.motion == motion::TOOL_UP, Refusal::WrongMotion)?;
+        need(self.tool != NO_TOOL, Refusal::NoToolSelected)?;
         self.motion = motion::TOOL_DOWN;
-        Next::To(self)
+        Ok(self)
     }
 
     // Tool up.
-    fn m16(mut self) -> Next
+    #[tactic(auto, unfolding(crate::specs::State::need))]
+    fn m16(mut self) -> Result<State, Refusal>
         ensures { result ≡ S.m16 self }
     {
-        if self.phase != phase::BODY {
-            return Next::No(WRONG_PHASE);
-        }
-        if self.motion != motion::TOOL_DOWN {
-            return Next::No(WRONG_MOTION);
-        }
+        need(self.phase == phase::BODY, Refusal::WrongPhase)?;
+        need(self.motion == motion::TOOL_DOWN, Refusal::WrongMotion)?;
         self.motion = motion::TOOL_UP;
-        Next::To(self)
+        Ok(self)
     }
 
-    // A straight rout to p.
-    fn g01(mut self, p: Point) -> Next
+    // A straight rout to p: with the tool up it is G00.
+    #[tactic(auto, unfolding(crate::specs::State::need))]
+    fn g01(mut self, p: Point) -> Result<State, Refusal>
         ensures { result ≡ S.g01 self p }
     {
-        if self.phase != phase::BODY {
-            return Next::No(WRONG_PHASE);
-        }
-        if self.motion != motion::TOOL_DOWN { // with the tool up it is G00
-            return Next::No(WRONG_MOTION);
-        }
+        need(self.phase == phase::BODY, Refusal::WrongPhase)?;
+        need(self.motion == motion::TOOL_DOWN, Refusal::WrongMotion)?;
         self.at = p;
-        Next::To(self)
+        Ok(self)
     }
 
     // A rout along an arc, G02 or G03.
-    fn arc(mut self, a: Arc) -> Next
+    #[tactic(auto, unfolding(crate::specs::State::need))]
+    fn arc(mut self, a: Arc) -> Result<State, Refusal>
         ensures { result ≡ S.arc self a }
     {
-        if self.phase != phase::BODY {
-            return Next::No(WRONG_PHASE);
-        }
-        if self.motion != motion::TOOL_DOWN {
-            return Next::No(WRONG_MOTION);
-        }
-        let from = self.at;
-        if a.is_possible(from) {
-            let to = a.to;
-            self.at = to;
-            return Next::To(self);
-        }
-        Next::No(IMPOSSIBLE_ARC)
+        need(self.phase == phase::BODY, Refusal::WrongPhase)?;
+        need(self.motion == motion::TOOL_DOWN, Refusal::WrongMotion)?;
+        need(a.is_possible(self.at), Refusal::ImpossibleArc)?;
+        self.at = a.to;
+        Ok(self)
     }
 
-    fn m30(mut self) -> Next
+    // The run ends with the tool up.
+    #[tactic(auto, unfolding(crate::specs::State::need))]
+    fn m30(mut self) -> Result<State, Refusal>
         ensures { result ≡ S.m30 self }
     {
-        if self.phase != phase::BODY {
-            return Next::No(WRONG_PHASE);
-        }
-        if self.motion == motion::TOOL_DOWN { // the run ends with the tool up
-            return Next::No(WRONG_MOTION);
-        }
+        need(self.phase == phase::BODY, Refusal::WrongPhase)?;
+        need(self.motion != motion::TOOL_DOWN, Refusal::WrongMotion)?;
         self.phase = phase::OVER;
-        Next::To(self)
+        Ok(self)
     }
 
     /// The state after a command, or why the command may not come here.
-    pub fn step(self, c: Command) -> Next
+    #[tactic(auto, unfolding(crate::specs::State::step))]
+    pub fn step(self, c: Command) -> Result<State, Refusal>
         ensures { result ≡ S.step self c }
     {
         match c {
@@ -262,28 +224,10 @@ impl State {
     }
 
     /// Whether two states agree in all ten numbers.
+    #[tactic(auto, using(points::proofs::Same::same_point_eq), unfolding(crate::specs::State::same_state, tools::specs::Set::same_tools))]
     pub fn same(self, other: State) -> bool
         ensures { result ≡ S.same_state self other }
     {
-        if self.phase != other.phase {
-            return false;
-        }
-        if self.unit != other.unit {
-            return false;
-        }
-        if self.motion != other.motion {
-            return false;
-        }
-        if self.tool != other.tool {
-            return false;
-        }
-        let here = self.at;
-        let there = other.at;
-        if here.same(there) {
-            let ours = self.tools;
-            let theirs = other.tools;
-            return ours.same(theirs);
-        }
-        false
+        self == other
     }
 }

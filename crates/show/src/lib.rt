@@ -4,34 +4,18 @@
 
 pub mod arguments;
 
-ghost use Rattle.std.specs.Prelude.{length};
-ghost use Rattle.show.specs.Got.{Got, GotLine};
+ghost use Rattle.std.specs.Prelude.{◌≤◌, length, IfOk, IfSome};
 
 use print::LINE_ROOM;
-use rules::{Hole, Refusal};
+use rules::{Hole, Refused};
+use std::io;
 use std::io::{Print, Read};
 
-/// Standard input, as much of it as the block holds, or that it can't be read.
-#[derive(Clone, Copy)]
-pub enum Input {
-    Bytes(usize),
-    Failed,
-}
-
-/// A line of standard input: how many of its bytes the block holds, or that the line is too long, or can't be read.
-#[derive(Clone, Copy)]
-pub enum InputLine {
-    Bytes(usize),
+/// Why there is no line of standard input: it is too long, or can't be read.
+#[derive(Clone, Copy, PartialEq, Eq)]
+pub enum LineFault {
     TooLong,
-    Failed,
-}
-
-// The next byte of standard input, or its end, or that it can't be read.
-#[derive(Clone, Copy)]
-enum Byte {
-    Is(u8),
-    End,
-    Failed,
+    Unreadable,
 }
 
 // Bytes of a line after which its LF is no longer looked for, so that endless input ends.
@@ -57,8 +41,13 @@ pub fn hole(output: &impl Print, line: usize, hole: Hole) {
 }
 
 /// `refused`, number, line and column.
-pub fn refused(output: &impl Print, refusal: Refusal, line: usize) {
-    let fields = [refusal.number as u64, line as u64, refusal.column as u64];
+pub fn refused(output: &impl Print, refused: Refused) {
+    let refusal = refused.refusal;
+    let fields = [
+        refusal.number() as u64,
+        refused.line as u64,
+        refusal.column() as u64,
+    ];
     numbers(output, b"refused", &fields);
 }
 
@@ -66,66 +55,61 @@ fn cannot_read(errors: &impl Print) {
     let _ = errors.write_all(b"standard input can't be read\n");
 }
 
-// One byte and no more: what follows it stays for the next read.
-fn read_byte(input: &mut impl Read, errors: &impl Print) -> Byte {
+// The next byte of standard input, if it has not ended. One byte and no more: what follows it stays for the next read.
+fn read_byte(input: &mut impl Read) -> io::Result<Option<u8>> {
     let mut one = [0u8; 1];
-    match input.read(&mut one) {
-        Ok(0) => Byte::End,
-        Ok(_) => Byte::Is(one[0]),
-        Err(_) => {
-            cannot_read(errors);
-            Byte::Failed
-        }
+    if input.read(&mut one)? == 0 {
+        return Ok(None);
     }
+    Ok(Some(one[0]))
 }
 
-/// Reads one line of standard input and its LF. Bytes for which the block has no room are dropped.
-pub fn read_line(input: &mut impl Read, errors: &impl Print, block: &mut [u8]) -> InputLine
-    ensures { GotLine (length block.old) result }
+/// Reads one line of standard input and its LF: how many of its bytes the block holds. Bytes for which it has no room are dropped.
+pub fn read_line(
+    input: &mut impl Read,
+    errors: &impl Print,
+    block: &mut [u8],
+) -> Result<usize, LineFault>
+    ensures { IfOk result (λ n. n ≤ length block.old) }
 {
     let mut got = 0;
-    let mut passed = 0;
-    while passed < MAX_INPUT_LINE {
-        match read_byte(input, errors) {
-            Byte::Failed => {
-                return InputLine::Failed;
-            }
-            Byte::End => {
-                return InputLine::Bytes(got);
-            }
-            Byte::Is(byte) => {
-                if byte == b'\n' {
-                    return InputLine::Bytes(got);
-                }
-                passed += 1;
-                if got < block.len() {
-                    block[got] = byte;
-                    got += 1;
-                }
-            }
+    for _ in 0..MAX_INPUT_LINE {
+        let Ok(next) = read_byte(input) else {
+            cannot_read(errors);
+            return Err(LineFault::Unreadable);
+        };
+        let Some(byte) = next else {
+            return Ok(got);
+        };
+        if byte == b'\n' {
+            return Ok(got);
+        }
+        if got < block.len() {
+            block[got] = byte;
+            got += 1;
         }
     }
-    InputLine::TooLong
+    Err(LineFault::TooLong)
 }
 
-/// Reads standard input until it ends or the block is full. Nothing but a failed read is an error.
-pub fn read_input(input: &mut impl Read, errors: &impl Print, block: &mut [u8]) -> Input
-    ensures { Got (length block.old) result }
+/// Reads standard input until it ends or the block is full: how many bytes, or that it can't be read. Nothing else is an error.
+pub fn read_input(input: &mut impl Read, errors: &impl Print, block: &mut [u8]) -> Option<usize>
+    ensures { IfSome result (λ n. n ≤ length block.old) }
 {
     let mut got = 0;
     while got < block.len() {
         match input.read(&mut block[got..]) {
             Ok(0) => {
-                return Input::Bytes(got);
+                return Some(got);
             }
             Ok(more) => {
                 got += more;
             }
             Err(_) => {
                 cannot_read(errors);
-                return Input::Failed;
+                return None;
             }
         }
     }
-    Input::Bytes(got)
+    Some(got)
 }

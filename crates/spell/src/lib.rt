@@ -4,8 +4,8 @@
 
 ghost use Rattle.std.specs.Prelude.{◌≡◌, ◌++◌, ◌≤◌, length};
 ghost use Rattle.lists.specs.Words.{bytes};
-ghost use Rattle.rules.specs.declared.Command.TheVariants.{Declare, Select};
-ghost use Rattle.rules.specs.Writing.{tool_text, point_text, arc_text, with_lf, line_text, longest_line};
+ghost use Rattle.rules.specs.declared.Command.TheVariants.{Declare};
+ghost use Rattle.rules.specs.Writing.{tool_text, point_text, arc_text, spelt, line_text, longest_line};
 ghost use Rattle.text.specs.Wrote.{Wrote};
 
 use millionths::{
@@ -26,11 +26,11 @@ fn point_length(p: Point) -> usize
 fn arc_length(a: Arc) -> usize
     ensures { (result ≡ length (arc_text a)) × (result ≤ 35) }
 {
-    let to = a.to;
-    point_length(to) + 1 + radius_length(a.decimals, a.radius)
+    point_length(a.to) + 1 + radius_length(a.decimals, a.radius)
 }
 
 /// How many bytes a command's line has, its LF counted. A comment has none.
+#[tactic(auto, using(crate::proofs::Lengths::ended_length, crate::proofs::Lengths::tool_length, crate::proofs::Lengths::declaration_length), unfolding(rules::specs::Writing::line_text, rules::specs::Writing::spelt))]
 pub fn line_length(c: Command) -> usize
     ensures { (result ≡ length (line_text c)) × (result ≤ longest_line) }
 {
@@ -61,7 +61,7 @@ fn put_tool(b: &mut [u8], at: usize, t: u32) -> usize
     ensures { Wrote b.old at (bytes "T" ++ tool_text t) b.new result }
 {
     let digits = put_byte(b, at, b'T');
-    put_digits(b, digits, 2, t as u64)
+    put_digits(b, digits, 2, u64::from(t))
 }
 
 fn put_point(b: &mut [u8], at: usize, p: Point) -> usize
@@ -76,64 +76,67 @@ fn put_point(b: &mut [u8], at: usize, p: Point) -> usize
 fn put_arc(b: &mut [u8], at: usize, a: Arc) -> usize
     ensures { Wrote b.old at (arc_text a) b.new result }
 {
-    let to = a.to;
-    let to_end = put_point(b, at, to);
+    let to_end = put_point(b, at, a.to);
     let radius = put_byte(b, to_end, b'A');
     put_radius(b, radius, a.decimals, a.radius)
 }
 
 fn put_declaration(b: &mut [u8], at: usize, t: u32, d: u32) -> usize
-    ensures { Wrote b.old at (line_text (Declare t d)) b.new result }
+    ensures { Wrote b.old at (spelt (Declare t d)) b.new result }
 {
     let tool_end = put_tool(b, at, t);
     let diameter = put_byte(b, tool_end, b'C');
-    let end = put_number(b, diameter, d);
-    put_byte(b, end, b'\n')
+    put_number(b, diameter, d)
 }
 
-fn put_selection(b: &mut [u8], at: usize, t: u32) -> usize
-    ensures { Wrote b.old at (line_text (Select t)) b.new result }
-{
-    let end = put_tool(b, at, t);
-    put_byte(b, end, b'\n')
-}
-
-fn put_point_line(b: &mut [u8], at: usize, word: &[u8], p: Point) -> usize
-    ensures { Wrote b.old at (with_lf (word.now ++ point_text p)) b.new result }
+// Kept: two functions, and not one that takes what follows the word as a closure: each is two calls, which is plainer.
+fn put_point_after(b: &mut [u8], at: usize, word: &[u8], p: Point) -> usize
+    ensures { Wrote b.old at (word.now ++ point_text p) b.new result }
 {
     let word_end = put_word(b, at, word);
-    let end = put_point(b, word_end, p);
-    put_byte(b, end, b'\n')
+    put_point(b, word_end, p)
 }
 
-fn put_arc_line(b: &mut [u8], at: usize, word: &[u8], a: Arc) -> usize
-    ensures { Wrote b.old at (with_lf (word.now ++ arc_text a)) b.new result }
+fn put_arc_after(b: &mut [u8], at: usize, word: &[u8], a: Arc) -> usize
+    ensures { Wrote b.old at (word.now ++ arc_text a) b.new result }
 {
     let word_end = put_word(b, at, word);
-    let end = put_arc(b, word_end, a);
-    put_byte(b, end, b'\n')
+    put_arc(b, word_end, a)
+}
+
+// A command's line without its LF.
+#[tactic(auto, unfolding(rules::specs::Writing::spelt))]
+fn put_command(b: &mut [u8], at: usize, c: Command) -> usize
+    ensures { Wrote b.old at (spelt c) b.new result }
+{
+    match c {
+        Command::Comment => put_byte(b, at, b';'),
+        Command::M48 => put_word(b, at, b"M48"),
+        Command::Metric => put_word(b, at, b"METRIC"),
+        Command::Inch => put_word(b, at, b"INCH"),
+        Command::Declare(t, d) => put_declaration(b, at, t, d),
+        Command::Percent => put_byte(b, at, b'%'),
+        Command::G05 => put_word(b, at, b"G05"),
+        Command::G00(p) => put_point_after(b, at, b"G00", p),
+        Command::Select(t) => put_tool(b, at, t),
+        Command::Hit(p) => put_point(b, at, p),
+        Command::M15 => put_word(b, at, b"M15"),
+        Command::M16 => put_word(b, at, b"M16"),
+        Command::G01(p) => put_point_after(b, at, b"G01", p),
+        Command::G02(a) => put_arc_after(b, at, b"G02", a),
+        Command::G03(a) => put_arc_after(b, at, b"G03", a),
+        Command::M30 => put_word(b, at, b"M30"),
+    }
 }
 
 /// A command's line with its LF, as much as there is room for. A comment is dropped.
+#[tactic(auto, using(text::proofs::Wrote::wrote_nothing, text::proofs::Wrote::wrote_more), unfolding(rules::specs::Writing::line_text))]
 pub fn put_line(b: &mut [u8], at: usize, c: Command) -> usize
     ensures { Wrote b.old at (line_text c) b.new result }
 {
-    match c {
-        Command::Comment => at,
-        Command::M48 => put_word(b, at, b"M48\n"),
-        Command::Metric => put_word(b, at, b"METRIC\n"),
-        Command::Inch => put_word(b, at, b"INCH\n"),
-        Command::Declare(t, d) => put_declaration(b, at, t, d),
-        Command::Percent => put_word(b, at, b"%\n"),
-        Command::G05 => put_word(b, at, b"G05\n"),
-        Command::G00(p) => put_point_line(b, at, b"G00", p),
-        Command::Select(t) => put_selection(b, at, t),
-        Command::Hit(p) => put_point_line(b, at, b"", p),
-        Command::M15 => put_word(b, at, b"M15\n"),
-        Command::M16 => put_word(b, at, b"M16\n"),
-        Command::G01(p) => put_point_line(b, at, b"G01", p),
-        Command::G02(a) => put_arc_line(b, at, b"G02", a),
-        Command::G03(a) => put_arc_line(b, at, b"G03", a),
-        Command::M30 => put_word(b, at, b"M30\n"),
+    if let Command::Comment = c {
+        return at;
     }
+    let end = put_command(b, at, c);
+    put_byte(b, end, b'\n')
 }

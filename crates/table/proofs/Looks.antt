@@ -11,13 +11,12 @@ use lib.Dec.{leb}
 use lib.IntN.{ℤ}
 use lib.ListN.{length, get_or, take, drop, length-drop}
 use lib.Seq.{drop-drop, length-take-le, get_or-drop}
+use Rattle.std.specs.Prelude.{Some, None}
 use Rattle.runs.specs.Machine.{Row, Entry, holds, bad}
 use Rattle.rules.specs.declared.Command.{Command}
 use Rattle.rules.specs.declared.Command.TheVariants.{Comment}
 use Rattle.rules.specs.declared.State.{State}
-use Rattle.rules.specs.declared.Looked.{Looked}
-use Rattle.rules.specs.declared.Looked.TheVariants.{Holds, Bad}
-use Rattle.rules.specs.declared.Before.TheVariants.{From}
+use Rattle.rules.specs.Results.{Looked, row_found}
 use Rattle.rules.specs.Rows.{row_width, row_numbers, row_test, command_at, state_at, look_of, entry_of, entries_of}
 use Rattle.rules.specs.State.{start}
 use Rattle.rules.specs.Editing.{entry_at, state_in, before_line}
@@ -47,11 +46,11 @@ module _ (t : List ℤ) (i : ℕ) where
 
   look_inside : row_width * i + row_width ≤ length t → look_at t i ≡ look_of (numbers_at t i)
   unfolding look_at
-  look_inside = inside_row look_of Bad
+  look_inside = inside_row look_of None
 
   -- the command in a row's numbers is the row's where they are a row
   module _ (inside : row_width * i + row_width ≤ length t) (r : Row Command State) where
-    command_found : (b : Bool) → entry_of (cond b (Holds (command_at (numbers_at t i)) (state_at (numbers_at t i))) Bad) ≡ holds r → command_at (numbers_at t i) ≡ r.command
+    command_found : (b : Bool) → entry_of (cond b (row_found (command_at (numbers_at t i)) (state_at (numbers_at t i))) None) ≡ holds r → command_at (numbers_at t i) ≡ r.command
     command_found true e = cc
     command_found false e = absurd (let z : ◌≡◌ {A = ℕ} 0 1 = cc in omega arith)
 
@@ -67,14 +66,14 @@ module _ (t : List ℤ) (i : ℕ) where
       pub command_ok : CommandOk c
       pub state_ok : StateOk s
 
-    found_in : (b : Bool) → leb (row_width * i + row_width) (length t) ≡ b → cond b (look_of (numbers_at t i)) Bad ≡ Holds c s → Found
+    found_in : (b : Bool) → leb (row_width * i + row_width) (length t) ≡ b → cond b (look_of (numbers_at t i)) None ≡ row_found c s → Found
     found_in true h e =
         let inside = leb-true (row_width * i + row_width) (length t) h in
         let row = look_holds (numbers_at t i) c s (many inside) e in
         record { inside = inside; numbers = row.numbers; command_ok = row.command_ok; state_ok = row.state_ok }
     found_in false h e = absurd (let z : ◌≡◌ {A = ℕ} 0 1 = cc in omega arith)
 
-    pub look_found : look_at t i ≡ Holds c s → Found
+    pub look_found : look_at t i ≡ row_found c s → Found
     unfolding look_at
     look_found e = found_in (leb (row_width * i + row_width) (length t)) refl e
 
@@ -104,7 +103,7 @@ pub before_is : (n : ℕ) (t : List ℤ) (k : ℕ) → k ≤ n → row_width * n
 unfolding before_line
 before_is n t k g m = by (leb k 1) refl
   where
-    by : (b : Bool) → leb k 1 ≡ b → cond b (From start) (state_in (entry_at (entries_of n t) (k - 1))) ≡ cond b (From start) (state_in (row_at t (k - 1)))
+    by : (b : Bool) → leb k 1 ≡ b → cond b (Some start) (state_in (entry_at (entries_of n t) (k - 1))) ≡ cond b (Some start) (state_in (row_at t (k - 1)))
     by true e = refl
     by false e = ap state_in (entry_is n t (k - 1) (omega (arith, leb-false k 1 e)) (omega arith) m)
 

@@ -1,11 +1,10 @@
 -- A table in lent numbers: a row looked at, and one that follows. `i` counts the rows before it.
-use Rattle.std.specs.Prelude.{cond, List, ℕ, ◌+◌, ◌-◌, ◌*◌, leb, ℤ, length, take, drop}
+use Rattle.std.specs.Prelude.{cond, List, ℕ, ◌+◌, ◌-◌, ◌*◌, leb, ℤ, length, take, drop, Some, None}
 use Rattle.runs.specs.Machine.{on_out, Entry}
 use Rattle.rules.specs.declared.Command.{Command}
 use Rattle.rules.specs.declared.Command.TheVariants.{Comment}
 use Rattle.rules.specs.declared.State.{State}
-use Rattle.rules.specs.declared.Looked.{Looked}
-use Rattle.rules.specs.declared.Looked.TheVariants.{Holds, Bad}
+use Rattle.rules.specs.Results.{Looked, row_found}
 use Rattle.rules.specs.State.{taken, same_state}
 use Rattle.rules.specs.Rows.{row_width, command_at, look_of, entry_of}
 
@@ -19,7 +18,7 @@ at_row f z t i = cond (leb (row_width * i + row_width) (length t)) (f (numbers_a
 
 -- the row after i others; past the end there is none
 unfoldable pub look_at : List ℤ → ℕ → Looked
-look_at t i = at_row look_of Bad t i
+look_at t i = at_row look_of None t i
 
 -- the command in its numbers, of which nothing is tested; past the end there is none, as in a comment
 unfoldable pub untested_at : List ℤ → ℕ → Command
@@ -31,5 +30,5 @@ row_at t k = entry_of (look_at t (k - 1))
 
 -- a row looked at, where its command may come after state p and its own state is the one that comes of it
 unfoldable pub followed : State → Looked → Looked
-followed p (Holds c s) = on_out (taken p c) (λ _. Bad) (λ q. cond (same_state q s) (Holds c s) Bad)
-followed p Bad = Bad
+followed p (Some r) = on_out (taken p r.command) (λ _. None) (λ q. cond (same_state q r.state) (row_found r.command r.state) None)
+followed p None = None

@@ -1,4 +1,5 @@
 // A table in lent numbers, looked at. `i` counts the rows before a row: row i is line i + 1.
+// Kept: the numbers and n side by side. C lends them so, and each function promises an answer for every n, one that fits or not.
 #![tactic(auto)]
 
 ghost use Rattle.std.specs.Prelude.{◌≡◌, ◌-◌};
@@ -6,7 +7,7 @@ ghost use Rattle.rules.specs.Rows as Rows;
 ghost use Rattle.rules.specs.Editing as Editing;
 ghost use Rattle.table.specs.Table as S;
 
-use rules::{Before, Command, Looked, MAX_LINES, Next, ROW_WIDTH, State};
+use rules::{Command, MAX_LINES, ROW_WIDTH, Row, State};
 
 // ---- its sizes
 
@@ -25,6 +26,7 @@ pub fn sizes_fit(table: &[i32], n: usize) -> bool
 }
 
 /// Whether a table of n rows has the line.
+#[tactic(auto, unfolding(rules::specs::Editing::is_line))]
 pub fn is_line(n: usize, line: usize) -> bool
     ensures { result ≡ Editing.is_line n line }
 {
@@ -37,11 +39,12 @@ pub fn is_line(n: usize, line: usize) -> bool
 // ---- its rows
 
 /// Row i, as its numbers are: no other number is looked at. Past the end there is none.
-pub fn look(table: &[i32], i: usize) -> Looked
+#[tactic(auto, using(crate::proofs::Looks::row_past, crate::proofs::Looks::row_part), unfolding(crate::specs::Table::look_at, row::specs::Row::looked))]
+pub fn look(table: &[i32], i: usize) -> Option<Row>
     ensures { result ≡ S.look_at table.now i }
 {
     if table.len() / ROW_WIDTH <= i {
-        return Looked::Bad;
+        return None;
     }
     let start = ROW_WIDTH * i;
     let end = start + ROW_WIDTH;
@@ -49,6 +52,7 @@ pub fn look(table: &[i32], i: usize) -> Looked
 }
 
 /// The command in row i, of which nothing is tested: for a row that was looked at before. Past the end there is none.
+#[tactic(auto, using(crate::proofs::Looks::row_past, crate::proofs::Looks::row_part), unfolding(crate::specs::Table::untested_at, row::specs::Row::untested_in))]
 pub fn untested_command(table: &[i32], i: usize) -> Command
     ensures { result ≡ S.untested_at table.now i }
 {
@@ -59,34 +63,27 @@ pub fn untested_command(table: &[i32], i: usize) -> Command
     row::untested_command(&table[first..first + ROW_WIDTH])
 }
 
-/// Row i, where it follows from the state before it.
-pub fn following(table: &[i32], i: usize, before: State) -> Looked
+/// Row i, where it is one and follows from the state before it.
+#[tactic(auto, unfolding(crate::specs::Table::followed))]
+pub fn following(table: &[i32], i: usize, before: State) -> Option<Row>
     ensures { result ≡ S.followed before (S.look_at table.now i) }
 {
-    match look(table, i) {
-        Looked::Bad => Looked::Bad,
-        Looked::Holds(command, state) => match before.step(command) {
-            Next::No(_) => Looked::Bad,
-            Next::To(next) => {
-                if next.same(state) {
-                    return Looked::Holds(command, state);
-                }
-                Looked::Bad
-            }
-        },
+    let row = look(table, i)?;
+    let next = before.step(row.command).ok()?;
+    if next.same(row.state) {
+        return Some(row);
     }
+    None
 }
 
 /// The state before a line, as it stands in the row before; the first line starts all zero.
-#[tactic(auto, unfolding(rules::specs::Editing::before_line))]
-pub fn state_before(table: &[i32], line: usize) -> Before
+#[tactic(auto, using(crate::proofs::Looks::before_row), unfolding(rules::specs::Editing::before_line))]
+pub fn state_before(table: &[i32], line: usize) -> Option<State>
     ensures { result ≡ Editing.before_line line (S.row_at table.now (line - 1)) }
 {
     if line <= 1 {
-        return Before::From(State::new());
+        return Some(State::new());
     }
-    match look(table, line - 2) {
-        Looked::Holds(_, state) => Before::From(state),
-        Looked::Bad => Before::Bad,
-    }
+    let row = look(table, line - 2)?;
+    Some(row.state)
 }

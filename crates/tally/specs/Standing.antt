@@ -1,18 +1,21 @@
 -- Holes counted in the numbers of rows as they stand: two numbers of each row are looked at, and neither is tested. Where the rows
 -- are whole, these are the counts of the rows (proofs/Standing).
-use Rattle.std.specs.Prelude.{◌≡◌, Bool, true, false, ◌&&◌, ◌||◌, cond, List, ℕ, zero, suc, ◌+◌, ◌-◌, ◌*◌, ◌/◌, leb, ltb, eqb, ℤ, length, set}
+use Rattle.std.specs.Prelude.{Option, Some, None, MatchOption, ◌≡◌, Bool, true, ◌&&◌, cond, List, ℕ, zero, suc, ◌+◌, ◌-◌, ◌*◌, ◌/◌, ◌≤◌, leb, ltb, eqb, ℤ, length}
 use Rattle.rules.specs.declared.Way.{Way}
 use Rattle.rules.specs.declared.Counts.{Counts}
 use Rattle.rules.specs.Numbers.{max_tool}
 use Rattle.rules.specs.Rows.{row_width, field_n}
 use Rattle.rules.specs.Counting.{one, hits, routs, each_tool, of_tool, for_each_tool, max_count}
-use Rattle.tally.specs.declared.Taken.{Taken}
 
 -- the tool with which the row after i others makes a hole that way, 0 where it makes none
 unfoldable pub tool_in : Way → List ℤ → ℕ → ℕ
 tool_in w l i =
     cond (leb w.first (field_n l (row_width * i)) && (leb (field_n l (row_width * i)) w.last && leb (field_n l (row_width * i + 8)) max_tool))
     (field_n l (row_width * i + 8)) 0
+
+-- an answer that is that tool, none where it is 0
+abbrev pub Tells : Option ℕ → ℕ → Type 0
+Tells r t = MatchOption r (t ≡ 0) (λ u. (u ≡ t) × (1 ≤ u) × (u ≤ max_tool))
 
 -- a count raised by one, and m times; none goes past the largest number of 32 bits
 abbrev pub max_counted : ℕ
@@ -24,16 +27,6 @@ raised a = cond (ltb a max_counted) (a + 1) a
 unfoldable pub raised_by : ℕ → ℕ → ℕ
 raised_by zero a = a
 raised_by (suc m) a = raised (raised_by m a)
-
--- one hole more, or fewer, of a tool; tool 0 has none
-unfoldable pub one_more : List ℕ → ℕ → List ℕ
-one_more l t = cond (eqb t 0) l (set l (t - 1) (raised (of_tool l t)))
-
-unfoldable pub has_one : List ℕ → ℕ → Bool
-has_one l t = eqb t 0 || leb 1 (of_tool l t)
-
-unfoldable pub one_fewer : List ℕ → ℕ → List ℕ
-one_fewer l t = cond (eqb t 0) l (set l (t - 1) (of_tool l t - 1))
 
 -- how many of the first i rows make one with tool t
 unfoldable pub standing_to : Way → List ℤ → ℕ → ℕ → ℕ
@@ -55,9 +48,6 @@ with_rows c l = record { hits = more hits l c.hits; routs = more routs l c.routs
 abbrev pub fewer : Way → List ℤ → List ℕ → List ℕ
 fewer w l c = each_tool (λ t. of_tool c t - standing w l t)
 
-abbrev pub larger : ℕ → ℕ → ℕ
-larger a b = cond (ltb a b) b a
-
 unfoldable pub none_over : List ℕ → Bool
 none_over c = for_each_tool (λ t. leb (of_tool c t) max_count)
 
@@ -75,10 +65,6 @@ holds_rows w l c = for_each_tool (λ t. leb (of_tool c t) max_count && leb (stan
 abbrev pub holds_all : Counts → List ℤ → Bool
 holds_all c l = holds_rows hits l c.hits && holds_rows routs l c.routs
 
-abbrev pub unfit : Counts → Taken
-unfit c = record { fits = false; counts = c }
-
-unfoldable pub without_rows : Counts → List ℤ → Taken
-without_rows c l =
-    cond (holds_all c l) (record { fits = true; counts = record { hits = fewer hits l c.hits; routs = fewer routs l c.routs } })
-    (unfit c)
+-- the counts without the rows' holes, or none, where they can't be counts of a table with those rows
+unfoldable pub without_rows : Counts → List ℤ → Option Counts
+without_rows c l = cond (holds_all c l) (Some (record { hits = fewer hits l c.hits; routs = fewer routs l c.routs })) None

@@ -4,7 +4,7 @@ use mathlib.Core.Bool.{cond}
 use mathlib.Core.List.{List, [], ◌∷◌, ◌++◌}
 use Prim.Native.Nat.{ℕ, zero, suc, ◌+◌, ◌*◌, ◌/◌, ◌%◌, ◌^◌, ◌<◌, ◌≤◌}
 use native.Mathlib.Omega.{arith}
-use native.Mathlib.Nat.{pow-succ'}
+use native.Mathlib.Nat.{pow-succ', one-le-pow}
 use lib.Dec.{ltb}
 use lib.ListN.{length, length-append}
 use borrow.Author.Tests.{lt-ltb, le-ltb}
@@ -79,3 +79,11 @@ one_digit_length n h = rw (lt-ltb n 10 h) (digits_length 1 n)
 pub tenth_length : (n : ℕ) → n < 18446744073709551616 → 10 ≤ n → length (decimal n) ≡ suc (length (decimal (n / 10)))
 unfolding decimal shown
 tenth_length n h k = ap length (sym (shown_more 19 n (omega arith))) ∙ rw (le-ltb n 10 k) (more_length (shown 19 (n / 10)) n)
+
+-- from the k-th power of ten on, below the next
+pub power_length : (k n : ℕ) → n < 18446744073709551616 → 10 ^ k ≤ n → n < 10 * 10 ^ k → length (decimal n) ≡ 1 + k
+power_length zero n f h i = one_digit_length n (omega arith)
+power_length (suc k) n f h i =
+    let e : 10 ^ suc k ≡ 10 * 10 ^ k = pow-succ' 10 k in
+    let p = one-le-pow k 10 (omega arith) in
+    omega (arith, tenth_length n f (omega arith), power_length k (n / 10) (omega arith) (omega arith) (omega arith))

@@ -9,6 +9,8 @@ use lib.Seq.{append_snoc, drop-cons, drop-set-lt, get_or-set_same, lt-length-set
 use Rattle.lists.specs.Put.{put_at}
 use Rattle.lists.proofs.Put.{put_none}
 use Rattle.rules.specs.Writing.{last_digits}
+use Rattle.text.specs.Wrote.{Wrote}
+use Rattle.text.proofs.Wrote.{all_wrote}
 
 pub digits_length : (k m : ℕ) → length (last_digits k m) ≡ k
 unfolding last_digits
@@ -24,11 +26,9 @@ digits_last (suc k) m =
     ap₂ ◌∷◌ (ap (λ (n : ℕ). 48 + n % 10) e) (digits_last k m)
 
 -- where there is room for k, the last of more is dropped
-pub digits_drop : (k j m : ℕ) {w : List ℕ} → k < j → take k (last_digits j m) ≡ w → take k (last_digits (j - 1) (m / 10)) ≡ w
-digits_drop k zero m h e = absurd (omega arith)
-digits_drop k (suc j) m h e =
-    let f : suc j - 1 ≡ j = omega arith in
-    rw f (sym (take-append-le k (last_digits j (m / 10)) ((48 + m % 10) ∷ []) (omega (arith, digits_length j (m / 10)))) ∙ ap (take k) (sym (digits_last j m)) ∙ e)
+pub digits_drop : (k i j m : ℕ) {w : List ℕ} → j ≡ suc i → k ≤ i → take k (last_digits j m) ≡ w → take k (last_digits i (m / 10)) ≡ w
+digits_drop k i j m f h e =
+    sym (take-append-le k (last_digits i (m / 10)) ((48 + m % 10) ∷ []) (omega (arith, digits_length i (m / 10)))) ∙ ap (take k) (sym (digits_last i m)) ∙ rw f at e
 
 -- the last element written first
 put_last : (l : List ℕ) (p n d : ℕ) (xs : List ℕ) → length xs ≡ n → p + n < length l → put_at (set l (p + n) d) p xs ≡ put_at l p (xs ++ (d ∷ []))
@@ -52,7 +52,9 @@ digits_turn b w at (suc j) m h k e =
     let f : suc j - 1 ≡ j = omega arith in
     rw f (put_last b at j (48 + m % 10) (last_digits j (m / 10)) (digits_length j (m / 10)) (omega arith) ∙ ap (put_at b at) (sym (digits_last j m)) ∙ e)
 
-pub digits_end : (b w : List ℕ) (at j m : ℕ) → j ≤ 0 → put_at b at (last_digits j m) ≡ w → b ≡ w
+-- where none is left, the whole is written
+pub digits_wrote : (b w : List ℕ) (at k n j m : ℕ) → at + k ≤ length b → j ≤ 0 → put_at w at (last_digits j m) ≡ put_at b at (last_digits k n)
+    → Wrote b at (last_digits k n) w (at + k)
 unfolding last_digits
-digits_end b w at zero m h e = sym (put_none b at) ∙ e
-digits_end b w at (suc j) m h e = absurd (omega arith)
+digits_wrote b w at k n zero m h i e = all_wrote (omega (arith, digits_length k n)) (sym (put_none w at) ∙ e) (omega (arith, digits_length k n))
+digits_wrote b w at k n (suc j) m h i e = absurd (omega arith)

@@ -1,13 +1,13 @@
 -- The laws of a text written part by part. They ask for no room: what has no room is written by neither side.
-use mathlib.Core.Path.{◌≡◌, refl, sym, ap, ap₂, ◌∙◌}
-use mathlib.Core.List.{List, [], ◌∷◌, ◌++◌}
-use Prim.Native.Nat.{ℕ, ◌+◌, ◌-◌, ◌<◌, ◌≤◌}
+use mathlib.Core.Path.{◌≡◌, sym, ap, ap₂, ◌∙◌}
+use mathlib.Core.List.{List, [], ◌++◌}
+use Prim.Native.Nat.{ℕ, ◌+◌, ◌-◌, ◌≤◌}
 use native.Mathlib.Omega.{arith}
 use native.Mathlib.Nat.{add-zero}
-use lib.ListN.{length, set, length-append}
+use lib.ListN.{length, length-append}
 use lib.Seq.{take-nil}
 use Rattle.lists.specs.Put.{put_at, fitting, put_in}
-use Rattle.lists.proofs.Put.{put_none, put_one, fitting_all, fitting_past, fitting_append, put_in_length, put_in_more}
+use Rattle.lists.proofs.Put.{put_none, fitting_all, fitting_past, fitting_append, put_in_length, put_in_more}
 use Rattle.text.specs.Wrote.{Wrote}
 
 pub wrote_length : {b b' x : List ℕ} {at r : ℕ} → Wrote b at x b' r → length b' ≡ length b
@@ -28,10 +28,6 @@ module _ {b b' : List ℕ} {at r : ℕ} where
   wrote_fit : (x y : List ℕ) → fitting b at x ≡ y → b' ≡ put_at b at y → r ≡ at + length y → Wrote b at x b' r
   wrote_fit x y e f g = record { bytes = f ∙ ap (put_at b at) (sym e); end = g ∙ ap (λ (l : List ℕ). at + length l) (sym e) }
 
-  -- texts of which the same part has room are written alike
-  pub wrote_same : {x : List ℕ} (y : List ℕ) → fitting b at x ≡ fitting b at y → Wrote b at x b' r → Wrote b at y b' r
-  wrote_same {x} y e w = wrote_fit y (fitting b at x) (sym e) w.bytes w.end
-
   -- where there is room for all
   pub wrote_all : {x : List ℕ} → at + length x ≤ length b → Wrote b at x b' r → (b' ≡ put_at b at x) × (r ≡ at + length x)
   wrote_all {x} h w = let e = fitting_all b at x h in (w.bytes ∙ ap (put_at b at) e, w.end ∙ ap (λ (l : List ℕ). at + length l) e)
@@ -50,9 +46,6 @@ module _ {b : List ℕ} {at : ℕ} where
   pub wrote_past : (x : List ℕ) → length b ≤ at → Wrote b at x b at
   wrote_past x h = nothing x (fitting_past b at x h)
 
-  pub wrote_byte : {d : ℕ} → at < length b → Wrote b at (d ∷ []) (set b at d) (at + 1)
-  wrote_byte {d} h = all_wrote (omega arith) (sym (put_none (set b at d) (at + 1)) ∙ put_one b at d [] h) refl
-
 -- ---- a loop that writes part by part: whoever writes the rest y on what is there has written the whole x
 
 abbrev pub Rest : List ℕ → ℕ → List ℕ → List ℕ → ℕ → List ℕ → Type 0
@@ -61,9 +54,6 @@ Rest b at x b₁ r₁ y = (b₂ : List ℕ) (r₂ : ℕ) → Wrote b₁ r₁ y b
 module _ {b x b₁ : List ℕ} {at r₁ : ℕ} (y : List ℕ) (rest : Rest b at x b₁ r₁ y) where
   pub rest_turn : {z b₂ : List ℕ} {r₂ : ℕ} (y₂ : List ℕ) → y ≡ z ++ y₂ → Wrote b₁ r₁ z b₂ r₂ → Rest b at x b₂ r₂ y₂
   rest_turn y₂ e w b₃ r₃ v = rest b₃ r₃ (rw e (wrote_more w v))
-
-  pub rest_length : length b₁ ≡ length b
-  rest_length = sym (put_in_length b₁ r₁ y) ∙ wrote_length (rest (put_in b₁ r₁ y) (r₁ + length (fitting b₁ r₁ y)) (record { bytes = refl; end = refl }))
 
   pub rest_end : y ≡ [] → Wrote b at x b₁ r₁
   rest_end e = rest b₁ r₁ (rw e wrote_nothing)

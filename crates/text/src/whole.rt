@@ -6,34 +6,25 @@ ghost use Rattle.text.specs.Wrote.{Wrote};
 use crate::digits::put_digits;
 use crate::parts::put_byte;
 
+#[tactic(auto, using(crate::proofs::Decimals::power_length, crate::proofs::Decimals::one_digit_length))]
 fn digit_count(n: u64) -> usize
-    ensures { (result ≡ length (decimal n)) × (1 ≤ result) × (result ≤ 20) }
+    ensures { result ≡ length (decimal n) }
 {
-    let mut count = 1;
-    let mut rest = n;
-    while 10 <= rest {
-        count += 1;
-        rest /= 10;
-    }
-    count
+    1 + n.checked_ilog10().unwrap_or(0) as usize
 }
 
 /// A number in decimal.
+#[tactic(auto, using(crate::proofs::Decimals::decimal_digits))]
 pub fn put_decimal(b: &mut [u8], at: usize, n: u64) -> usize
     ensures { Wrote b.old at (decimal n) b.new result }
 {
-    let count = digit_count(n);
-    put_digits(b, at, count, n)
+    put_digits(b, at, digit_count(n), n)
 }
 
 /// A minus where negative, no plus.
 pub fn put_signed(b: &mut [u8], at: usize, x: i32) -> usize
     ensures { Wrote b.old at (signed_decimal x) b.new result }
 {
-    let size = points::size(x) as u64;
-    if x < 0 {
-        let digits = put_byte(b, at, b'-');
-        return put_decimal(b, digits, size);
-    }
-    put_decimal(b, at, size)
+    let digits = if x < 0 { put_byte(b, at, b'-') } else { at };
+    put_decimal(b, digits, u64::from(points::size(x)))
 }

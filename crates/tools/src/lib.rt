@@ -5,7 +5,7 @@ ghost use Rattle.std.specs.Prelude.{◌≡◌, ◌<◌, ◌^◌};
 ghost use Rattle.tools.specs.Set as D;
 
 /// The declared tools, in four masked words: tool t is bit t mod 25 of word t div 25.
-#[derive(Clone, Copy)]
+#[derive(Clone, Copy, PartialEq, Eq)]
 pub struct Tools {
     pub a: u32,
     pub b: u32,
@@ -47,16 +47,12 @@ impl Tools {
     fn word(self, k: u32) -> u32
         ensures { result ≡ D.word_of self k }
     {
-        if k == 0 {
-            return self.a;
+        match k {
+            0 => self.a,
+            1 => self.b,
+            2 => self.c,
+            _ => self.d,
         }
-        if k == 1 {
-            return self.b;
-        }
-        if k == 2 {
-            return self.c;
-        }
-        self.d
     }
 
     /// Whether tool t is declared.
@@ -80,18 +76,10 @@ impl Tools {
     }
 
     /// Whether two sets agree in all four words.
+    #[tactic(auto, unfolding(crate::specs::Set::same_tools))]
     pub fn same(self, other: Tools) -> bool
         ensures { result ≡ D.same_tools self other }
     {
-        if self.a != other.a {
-            return false;
-        }
-        if self.b != other.b {
-            return false;
-        }
-        if self.c != other.c {
-            return false;
-        }
-        self.d == other.d
+        self == other
     }
 }

@@ -1,81 +1,69 @@
--- The answer of writing and the bytes it leaves, one law for each way out.
+-- The answer of writing and the bytes it leaves, from what measuring tells.
 use mathlib.Core.Path.{◌≡◌, refl, sym, ap, ◌∙◌}
-use mathlib.Core.Bool.{Bool, true, false, not}
+use mathlib.Core.Bool.{Bool, true, false, cond}
 use mathlib.Core.List.{List}
-use Prim.Native.Nat.{ℕ, ◌+◌, ◌<◌, ◌≤◌}
+use Prim.Native.Nat.{ℕ, ◌+◌, ◌*◌, ◌≤◌}
 use native.Mathlib.Omega.{arith}
-use borrow.Author.Tests.{not-true, not-false, le-leb, lt-leb}
+use borrow.Author.Tests.{leb-true}
+use lib.Dec.{leb}
 use lib.IntN.{ℤ}
 use lib.ListN.{length}
+use Rattle.std.specs.Prelude.{Ok, Err}
 use Rattle.lists.specs.Put.{put_at, put_in}
 use Rattle.lists.proofs.Put.{fitting_all}
 use Rattle.runs.specs.Machine.{Verdict, accepted, refused, on_verdict}
 use Rattle.rules.specs.declared.Refusal.{Refusal}
-use Rattle.rules.specs.declared.Answer.{Answer}
-use Rattle.rules.specs.declared.Answer.TheVariants.{Done, Refused}
+use Rattle.rules.specs.Results.{Answer, refused_at}
 use Rattle.rules.specs.Refusals.{bad_table, no_room}
 use Rattle.rules.specs.State.{start}
-use Rattle.rules.specs.Rows.{entries_of, sizes_fit, Sizes}
-use Rattle.rules.specs.Answers.{said}
+use Rattle.rules.specs.Rows.{row_width, entries_of, sizes_fit}
 use Rattle.rules.specs.Reading.{Rows}
-use Rattle.rules.specs.Writing.{text_of_rows, follow_from, rows_of, in_block, with_text, write_answer, write_leaves}
+use Rattle.rules.specs.Writing.{text_of_rows, follow_from, in_block, with_text, rows_of, write_answer, write_leaves}
 use Rattle.laws.proofs.Sizes.{sizes_say}
-use Rattle.writer.specs.Walk.{bytes_from, text_from}
+use Rattle.writer.specs.Walk.{bytes_from, text_to}
 use Rattle.writer.proofs.Walk.{text_follows}
 
-abbrev WriteIs : List ℤ → ℕ → List ℕ → Answer → List ℕ → Type 0
-WriteIs t n b r b' = (said r ≡ said (write_answer t n b)) × (b' ≡ write_leaves t n b)
+-- what writing answers, and what it leaves, for what measuring answered
+abbrev answered : ℕ → Answer → Answer
+answered room (Ok m) = cond (leb m room) (Ok m) (refused_at no_room 0)
+answered room (Err r) = Err r
 
--- what measuring tells says what the verdict is
-verdict_refused : (v : Verdict Rows Refusal) (e : Refusal) (i : ℕ) → Refused e i ≡ bytes_from 0 v → v ≡ refused e i
-verdict_refused (accepted rs) e i q = absurd (let z : ◌≡◌ {A = ℕ} 0 1 = cc in omega arith)
-verdict_refused (refused f j) e i q = cc
-
--- rows that follow, and how long their text is
-record Measured (v : Verdict Rows Refusal) (m : ℕ) : Type 0 where
-  rows : Rows
-  verdict : v ≡ accepted rows
-  long : m ≡ length (text_of_rows rows)
-
-measured : (v : Verdict Rows Refusal) (m : ℕ) → Done m ≡ bytes_from 0 v → Measured v m
-measured (accepted rs) m q = record { rows = rs; verdict = refl; long = let e : 0 + length (text_of_rows rs) ≡ length (text_of_rows rs) = omega arith in cc }
-measured (refused f j) m q = absurd (let z : ◌≡◌ {A = ℕ} 0 1 = cc in omega arith)
-
-pub rows_fit : (t : List ℤ) (n : ℕ) {fit : Bool} → fit ≡ sizes_fit t n → not fit ≡ false → Sizes t n
-rows_fit t n {fit} fe f = sizes_say t n (sym fe ∙ not-false fit f)
+abbrev left : List ℕ → List ℕ → Answer → List ℕ
+left b w (Ok m) = cond (leb m (length b)) w b
+left b w (Err r) = b
 
 module _ (t : List ℤ) (n : ℕ) (b : List ℕ) where
-  from_verdict : (v : Verdict Rows Refusal) → rows_of t n ≡ v → (r : Answer) (b' : List ℕ)
-      → (r ≡ on_verdict v Refused (λ rs. in_block b (text_of_rows rs))) × (b' ≡ on_verdict v (λ e i. b) (λ rs. with_text b (text_of_rows rs))) → WriteIs t n b r b'
-  unfolding write_answer write_leaves
-  from_verdict v e r b' h = rw e (ap said h.0, h.1)
+  abbrev told : Verdict Rows Refusal
+  told = follow_from start (entries_of n t) 0
 
-  module _ {fit : Bool} (fe : fit ≡ sizes_fit t n) where
-    pub write_sizes : not fit ≡ true → WriteIs t n b (Refused bad_table 0) b
-    unfolding rows_of
-    write_sizes h = from_verdict (refused bad_table 0) (rw (sym fe ∙ not-true fit h)) (Refused bad_table 0) b (refl, refl)
+  answer_by : (v : Verdict Rows Refusal) → on_verdict v refused_at (λ rs. in_block b (text_of_rows rs)) ≡ answered (length b) (bytes_from 0 v)
+  answer_by (accepted rs) = let e : 0 + length (text_of_rows rs) ≡ length (text_of_rows rs) = omega arith in rw e
+  answer_by (refused e i) = refl
 
-    module _ (f : not fit ≡ false) {a : Answer} (ae : a ≡ bytes_from 0 (follow_from start (entries_of n t) 0)) where
-      rows_are : rows_of t n ≡ follow_from start (entries_of n t) 0
-      unfolding rows_of
-      rows_are = rw (sym fe ∙ not-false fit f)
+  left_by : row_width * n ≤ length t → (v : Verdict Rows Refusal) → told ≡ v
+      → on_verdict v (λ _ _. b) (λ rs. with_text b (text_of_rows rs)) ≡ left b (put_in b 0 (text_to t n)) (bytes_from 0 v)
+  left_by room (accepted rs) e =
+      rw (text_follows t n room rs e) (by (leb (length (text_of_rows rs)) (length b)) refl ∙ ap (λ z. left b (put_in b 0 (text_of_rows rs)) (Ok z)) (omega arith))
+    where
+      by : (f : Bool) → leb (length (text_of_rows rs)) (length b) ≡ f → cond f (put_at b 0 (text_of_rows rs)) b ≡ cond f (put_in b 0 (text_of_rows rs)) b
+      by true g = ap (put_at b 0) (sym (fitting_all b 0 (text_of_rows rs) (omega (arith, leb-true (length (text_of_rows rs)) (length b) g))))
+      by false g = refl
+  left_by room (refused e i) f = refl
 
-      pub write_refused : (e : Refusal) (i : ℕ) → a ≡ Refused e i → WriteIs t n b (Refused e i) b
-      write_refused e i g = from_verdict (refused e i) (rows_are ∙ verdict_refused (follow_from start (entries_of n t) 0) e i (sym g ∙ ae)) (Refused e i) b (refl, refl)
+  pub answer_is : write_answer t n b ≡ cond (sizes_fit t n) (answered (length b) (bytes_from 0 told)) (refused_at bad_table 0)
+  unfolding write_answer rows_of
+  answer_is = by (sizes_fit t n)
+    where
+      by : (f : Bool) → on_verdict (cond f told (refused bad_table 0)) refused_at (λ rs. in_block b (text_of_rows rs))
+          ≡ cond f (answered (length b) (bytes_from 0 told)) (refused_at bad_table 0)
+      by true = answer_by told
+      by false = refl
 
-      module _ (m : ℕ) (g : a ≡ Done m) where
-        all : Measured (follow_from start (entries_of n t) 0) m
-        all = measured (follow_from start (entries_of n t) 0) m (sym g ∙ ae)
-
-        pub write_no_room : length b < m → WriteIs t n b (Refused no_room 0) b
-        write_no_room h =
-            let e = lt-leb (length (text_of_rows all.rows)) (length b) (rw all.long at h) in
-            from_verdict (accepted all.rows) (rows_are ∙ all.verdict) (Refused no_room 0) b (rw e, rw e)
-
-        pub write_done : m ≤ length b → (b' : List ℕ) → b' ≡ put_in b 0 (text_from t 0 n) → WriteIs t n b (Done m) b'
-        write_done h b' w =
-            let x = text_of_rows all.rows in
-            let e = le-leb (length x) (length b) (rw all.long at h) in
-            let fits = fitting_all b 0 x (omega (arith, all.long)) in
-            from_verdict (accepted all.rows) (rows_are ∙ all.verdict) (Done m) b'
-            (rw e (ap Done all.long), rw e (w ∙ ap (put_in b 0) (text_follows t n (rows_fit t n fe f).room all.rows all.verdict) ∙ ap (put_at b 0) fits))
+  pub leaves_are : write_leaves t n b ≡ cond (sizes_fit t n) (left b (put_in b 0 (text_to t n)) (bytes_from 0 told)) b
+  unfolding write_leaves rows_of
+  leaves_are = by (sizes_fit t n) refl
+    where
+      by : (f : Bool) → sizes_fit t n ≡ f
+          → on_verdict (cond f told (refused bad_table 0)) (λ _ _. b) (λ rs. with_text b (text_of_rows rs)) ≡ cond f (left b (put_in b 0 (text_to t n)) (bytes_from 0 told)) b
+      by true e = left_by (sizes_say t n e).room told refl
+      by false e = refl

@@ -1,51 +1,40 @@
--- The counts in a lent block: two parts of it, and what a block that is too short does to each answer.
+-- The counts in a lent block: a tool's count in a part of it, and what a block that is too short does to each answer.
 use mathlib.Core.Path.{◌≡◌, refl, sym, ap, ap₂, ◌∙◌}
-use mathlib.Core.Bool.{Bool, true, false, cond}
+use mathlib.Core.Bool.{Bool, true, false}
 use mathlib.Core.List.{List, [], ◌++◌, append-nil}
-use Prim.Native.Nat.{ℕ, ◌+◌, ◌-◌, ◌/◌, ◌<◌, ◌≤◌}
-use native.Mathlib.Omega.{arith}
-use native.Mathlib.Nat.{zero-add}
+use Prim.Native.Nat.{ℕ, ◌+◌, ◌/◌, ◌<◌, ◌≤◌}
 use borrow.Author.Tests.{le-leb, lt-leb, leb-true, leb-false}
 use lib.Dec.{leb}
 use lib.IntN.{ℤ}
-use lib.ListN.{length, get_or, take, drop, length-drop, drop_of_length-le}
-use lib.Seq.{get_or-take, get_or-drop, length-take-le, take-length, drop-length}
-use Rattle.lists.specs.Put.{put_at}
+use lib.ListN.{length, get_or, take, drop}
+use lib.Seq.{get_or-take, get_or-drop, take-length, drop-length}
+use Rattle.rules.specs.Results.{Answer, refused_at}
+use Rattle.std.specs.Prelude.{IfOk, Ok, Err}
 use Rattle.lists.proofs.Choice.{cond_all}
 use Rattle.runs.specs.Machine.{Verdict, accepted, refused, on_verdict}
 use Rattle.rules.specs.declared.Refusal.{Refusal}
 use Rattle.rules.specs.declared.Revision.{Revision}
-use Rattle.rules.specs.declared.Answer.{Answer}
-use Rattle.rules.specs.declared.Answer.TheVariants.{Done, Refused}
 use Rattle.rules.specs.declared.Counts.{Counts}
 use Rattle.rules.specs.declared.Counted.{Counted}
-use Rattle.rules.specs.Refusals.{no_room, no_such_tool}
-use Rattle.rules.specs.Numbers.{max_tool, is_tool}
+use Rattle.rules.specs.Refusals.{no_room}
+use Rattle.rules.specs.Numbers.{max_tool}
 use Rattle.rules.specs.Answers.{said}
 use Rattle.rules.specs.Rows.{row_width}
 use Rattle.rules.specs.Reading.{Rows, file_of, has_room, in_room, with_rows, read_answer, read_leaves}
-use Rattle.rules.specs.Counting.{count_of, read_counts}
+use Rattle.rules.specs.Counting.{read_counts}
 use Rattle.rules.specs.Editing.{meeting_answer, edit_answer, edit_leaves, edit_counts}
 use Rattle.rules.proofs.Said.{said_one}
 use Rattle.laws.proofs.Sizes.{sizes_say}
 use Rattle.answers.proofs.GoodTables.{file_table}
 use Rattle.reader.specs.Read.{ReadIs}
 use Rattle.editor.specs.Edit.{EditIs}
-use Rattle.xnc.specs.Door.{revision_of, packed_refusal, packed}
-use Rattle.xnc.specs.Counts.{counts_width, counts_numbers, counts_in, has_block, no_block, last_block, counts_left, room_for, read_there, read_there_leaves, ReadDoor, edit_there, edit_there_leaves, EditDoor}
+use Rattle.xnc.specs.Door.{revision_of, packed}
+use Rattle.xnc.specs.Counts.{counts_width, counts_in, no_block, counts_left, room_for, read_there, read_there_leaves, ReadDoor, edit_there, edit_there_leaves, EditDoor}
 
--- ---- a part of a block, copied
+-- ---- a tool's count
 
--- a list put over one as long
-pub put_whole : (l xs : List ℕ) → length xs ≡ length l → put_at l 0 xs ≡ xs
-put_whole l xs e = ap (◌++◌ xs) (drop_of_length-le l {i = 0 + length xs} (omega arith)) ∙ append-nil xs
-
-module _ (b : List ℕ) (at : ℕ) (h : at + max_tool ≤ length b) where
-  pub part_length : length (take max_tool (drop at b)) ≡ max_tool
-  part_length = length-take-le max_tool (drop at b) (simp length-drop (omega arith))
-
-  pub part_get : (i : ℕ) → i < max_tool → get_or b (at + i) 0 ≡ get_or (take max_tool (drop at b)) i 0
-  part_get i k = sym (get_or-take max_tool (drop at b) i 0 k ∙ get_or-drop at b i 0)
+pub part_get : (b : List ℕ) (at i : ℕ) → i < max_tool → get_or b (at + i) 0 ≡ get_or (take max_tool (drop at b)) i 0
+part_get b at i k = sym (get_or-take max_tool (drop at b) i 0 k ∙ get_or-drop at b i 0)
 
 -- ---- a file read where the block is too short: in no room at all every file is refused, for a fault of its own first
 
@@ -54,11 +43,11 @@ module _ (rev : Revision) (bs : List ℕ) (t : List ℤ) where
   some_rows rs h = (sizes_say _ _ (file_table rev bs rs h []).fits).some
 
   none_read : (v : Verdict Rows Refusal) → file_of rev bs ≡ v
-      → (on_verdict v Refused (in_room []) ≡ no_block (on_verdict v Refused (in_room t))) × (on_verdict v (λ e i. []) (with_rows []) ≡ [])
+      → (on_verdict v refused_at (in_room []) ≡ no_block (on_verdict v refused_at (in_room t))) × (on_verdict v (λ e i. []) (with_rows []) ≡ [])
   unfolding has_room
   none_read (accepted rs) e =
       let z : leb (length rs) 0 ≡ false = lt-leb (length rs) 0 (some_rows rs e) in
-      (rw z (cond_all (λ (a : Answer). Refused no_room 0 ≡ no_block a) (leb (length rs) (length t / row_width)) (λ _. refl) (λ _. refl)), rw z)
+      (rw z (cond_all (λ (a : Answer). refused_at no_room 0 ≡ no_block a) (leb (length rs) (length t / row_width)) (λ _. refl) (λ _. refl)), rw z)
   none_read (refused a i) e = (refl, refl)
 
   no_room_answer : read_answer rev bs [] ≡ no_block (read_answer rev bs t)
@@ -69,45 +58,19 @@ module _ (rev : Revision) (bs : List ℕ) (t : List ℤ) where
   unfolding read_leaves
   no_room_leaves = (none_read (file_of rev bs) refl).1
 
-never_done : (a : Answer) (n : ℕ) → no_block a ≡ Done n → ⊥
-never_done (Done m) n h = let z : ◌≡◌ {A = ℕ} 0 1 = cc in omega arith
-never_done (Refused e i) n h = let z : ◌≡◌ {A = ℕ} 0 1 = cc in omega arith
+pub if_ok : (a : Answer) {P : Type 0} → P → IfOk a (λ _. P)
+if_ok (Ok n) p = p
+if_ok (Err r) p = tt
 
--- ---- a tool's count
-
--- a refusal is given whatever the block
-either_way : (e : Refusal) (i : ℕ) (c : Bool) → cond c (Refused e i) (no_block (Refused e i)) ≡ Refused e i
-either_way e i true = refl
-either_way e i false = refl
-
-module _ (b : List ℕ) (at tool : ℕ) where
-  abbrev Counts-at : ℕ → Type 0
-  Counts-at r = r ≡ packed (last_block b (count_of (take max_tool (drop at b)) tool))
-
-  pub tool_low : tool ≡ 0 → {r : ℕ} → r ≡ packed_refusal no_such_tool 0 → Counts-at r
-  unfolding packed is_tool
-  tool_low h e = rw (lt-leb 1 tool (omega arith), either_way no_such_tool 0 (has_block b)) e
-
-  pub tool_high : max_tool < tool → {r : ℕ} → r ≡ packed_refusal no_such_tool 0 → Counts-at r
-  unfolding packed is_tool
-  tool_high h e = rw (le-leb 1 tool (omega arith), lt-leb tool max_tool h, either_way no_such_tool 0 (has_block b)) e
-
-  module _ (low : tool ≡ 0 → ⊥) (high : tool ≤ max_tool) where
-    pub tool_short : length b < counts_width → {r : ℕ} → r ≡ packed_refusal no_room 0 → Counts-at r
-    unfolding packed is_tool
-    tool_short h e = rw (le-leb 1 tool (omega (arith, low)), le-leb tool max_tool high, lt-leb counts_width (length b) h) e
-
-    pub tool_count : counts_width ≤ length b → at + max_tool ≤ counts_width → Counts-at (get_or b (at + (tool - 1)) 0)
-    unfolding packed is_tool
-    tool_count h k =
-        rw (le-leb 1 tool (omega (arith, low)), le-leb tool max_tool high, le-leb counts_width (length b) h)
-        (part_get b at (omega arith) (tool - 1) (omega (arith, low)) ∙ sym (zero-add _))
+no_block_ok : (a : Answer) (P : ℕ → Type 0) → IfOk (no_block a) P
+no_block_ok (Ok n) P = tt
+no_block_ok (Err r) P = tt
 
 -- ---- an edit
 
 no_block_left : (a : Answer) (b : List ℕ) (c : Counts) → counts_left (no_block a) b c ≡ b
-no_block_left (Done n) b c = refl
-no_block_left (Refused e i) b c = refl
+no_block_left (Ok n) b c = refl
+no_block_left (Err r) b c = refl
 
 module _ (t : List ℤ) (n k : ℕ) (l : List ℕ) (revision : ℕ) (b : List ℕ) where
   module _ {by : Revision} (re : by ≡ revision_of revision) where
@@ -129,20 +92,14 @@ module _ (t : List ℤ) (n k : ℕ) (l : List ℕ) (revision : ℕ) (b : List �
       left : t' ≡ edit_leaves (revision_of revision) t n k l (counts_in b)
       left = w.leaves ∙ ap₂ (λ (v : Revision) (d : Counts). edit_leaves v t n k l d) re ce
 
-      pub edit_refused : {a : Answer} → a ≡ x.answer → {e : Refusal} {i : ℕ} → a ≡ Refused e i → {r : ℕ} → r ≡ packed_refusal e i → EditDoor t n k l revision b r t' b
-      unfolding edit_there edit_there_leaves packed
-      edit_refused ae {e} {i} q f =
-          let z = le-leb counts_width (length b) h in
-          let d : edit_answer (revision_of revision) t n k l (counts_in b) ≡ Refused e i = sym done ∙ sym ae ∙ q in
-          record { answer = rw (z, d) f; table = rw z left; counts = rw (z, d) }
+      counts_lem : x.counts ≡ edit_counts (revision_of revision) t n k l (counts_in b)
+      counts_lem = w.counts ∙ ap₂ (λ (v : Revision) (d : Counts). edit_counts v t n k l d) re ce
 
-      pub edit_done : {a : Answer} → a ≡ x.answer → {m : ℕ} → a ≡ Done m → {b' : List ℕ} → b' ≡ put_at b 0 (counts_numbers x.counts) → EditDoor t n k l revision b m t' b'
-      unfolding edit_there edit_there_leaves packed
-      edit_done ae {m} q f =
+      pub edit_is : {r : ℕ} → r ≡ packed x.answer → {b' : List ℕ} → b' ≡ counts_left x.answer b x.counts → EditDoor t n k l revision b r t' b'
+      unfolding edit_there edit_there_leaves
+      edit_is e f =
           let z = le-leb counts_width (length b) h in
-          let d : edit_answer (revision_of revision) t n k l (counts_in b) ≡ Done m = sym done ∙ sym ae ∙ q in
-          let g : x.counts ≡ edit_counts (revision_of revision) t n k l (counts_in b) = w.counts ∙ ap₂ (λ (v : Revision) (u : Counts). edit_counts v t n k l u) re ce in
-          record { answer = rw (z, d) (sym (zero-add m)); table = rw z left; counts = rw (z, d) (f ∙ ap (λ (u : Counts). put_at b 0 (counts_numbers u)) g) }
+          record { answer = rw z (e ∙ ap packed done); table = rw z left; counts = rw z (f ∙ ap₂ (λ (a : Answer) (d : Counts). counts_left a b d) done counts_lem) }
 
 -- ---- a reading: t₁ is what it leaves of the numbers that it may write
 
@@ -182,31 +139,22 @@ module _ (revision : ℕ) (bs : List ℕ) (t : List ℤ) (b : List ℕ) {by : Re
       pick true e = g (leb-true counts_width (length b) e)
       pick false e = f (leb-false counts_width (length b) e)
 
-  module _ {a : Answer} (ae : a ≡ x.answer) where
-    pub read_refused : {e : Refusal} {i : ℕ} → a ≡ Refused e i → {r : ℕ} → r ≡ packed_refusal e i → {t' : List ℤ} → t' ≡ t₁ ++ drop room t → ReadDoor revision bs t b r t' b
-    unfolding read_there read_there_leaves packed
-    read_refused {e} {i} q f g =
-        by_block
-        (λ h. let z = lt-leb counts_width (length b) h in
-        let d : no_block (read_answer (revision_of revision) bs t) ≡ Refused e i = sym (short_answer h) ∙ sym ae ∙ q in
-        record { answer = rw (z, d) f; table = rw z (g ∙ short_left h); counts = rw (z, d) })
-        (λ h. let z = le-leb counts_width (length b) h in
-        let d : read_answer (revision_of revision) bs t ≡ Refused e i = sym (whole_answer h) ∙ sym ae ∙ q in
-        record { answer = rw (z, d) f; table = rw z (g ∙ whole_left h); counts = rw (z, d) })
+  -- on success there is a block
+  pub read_block : IfOk x.answer (λ _. counts_width ≤ length b)
+  read_block = by_block (λ h. rw (short_answer h) (no_block_ok (read_answer (revision_of revision) bs t) (λ _. counts_width ≤ length b))) (λ h. if_ok x.answer h)
 
-    module _ {n : ℕ} (q : a ≡ Done n) where
-      -- a file is read only where there is a block
-      pub read_block : counts_width ≤ length b
-      read_block = by_block (λ h. absurd (never_done (read_answer (revision_of revision) bs t) n (sym (short_answer h) ∙ sym ae ∙ q))) (λ h. h)
-
-      pub read_done : {t' : List ℤ} → t' ≡ t₁ ++ drop room t → {b' : List ℕ} → b' ≡ put_at b 0 (counts_numbers x.counts) → ReadDoor revision bs t b n t' b'
-      unfolding read_there read_there_leaves packed
-      read_done g f =
-          let h = read_block in
-          let z = le-leb counts_width (length b) h in
-          let d : read_answer (revision_of revision) bs t ≡ Done n = sym (whole_answer h) ∙ sym ae ∙ q in
-          record {
-            answer = rw (z, d) (sym (zero-add n));
-            table = rw z (g ∙ whole_left h);
-            counts = rw (z, d) (f ∙ ap (λ (u : Counts). put_at b 0 (counts_numbers u)) (whole_counts h));
-          }
+  pub read_is : {r : ℕ} → r ≡ packed x.answer → {t' : List ℤ} → t' ≡ t₁ ++ drop room t → {b' : List ℕ} → b' ≡ counts_left x.answer b x.counts → ReadDoor revision bs t b r t' b'
+  unfolding read_there read_there_leaves
+  read_is e g f =
+      by_block
+      (λ h. let z = lt-leb counts_width (length b) h in
+      let d = short_answer h in
+      let a = read_answer (revision_of revision) bs t in
+      record {
+        answer = rw z (e ∙ ap packed d);
+        table = rw z (g ∙ short_left h);
+        counts = rw z (f ∙ ap (λ (y : Answer). counts_left y b x.counts) d ∙ no_block_left a b x.counts ∙ sym (no_block_left a b (read_counts (revision_of revision) bs t)));
+      })
+      (λ h. let z = le-leb counts_width (length b) h in
+      let d = whole_answer h in
+      record { answer = rw z (e ∙ ap packed d); table = rw z (g ∙ whole_left h); counts = rw z (f ∙ ap₂ (λ (y : Answer) (c : Counts). counts_left y b c) d (whole_counts h)) })

@@ -6,12 +6,11 @@ use native.Mathlib.Omega.{arith}
 use lib.Dec.{leb}
 use lib.IntN.{ℤ}
 use lib.ListN.{length, get_or, take, drop}
+use Rattle.rules.specs.Refusals.{refusal_number, refusal_column}
+use Rattle.rules.specs.Results.{Answer, HoleAnswer}
+use Rattle.std.specs.Prelude.{Some, None, Ok, Err}
 use Rattle.lists.proofs.Choice.{cond_all}
-use Rattle.rules.specs.declared.Answer.{Answer}
-use Rattle.rules.specs.declared.Answer.TheVariants.{Done, Refused}
 use Rattle.rules.specs.declared.Revision.{Revision}
-use Rattle.rules.specs.declared.HoleAnswer.{HoleAnswer}
-use Rattle.rules.specs.declared.HoleAnswer.TheVariants as H
 use Rattle.rules.specs.Answers.{number_of, column_of, said, hole_numbers, hole_said}
 use Rattle.rules.specs.Numbers.{max_tool, is_tool}
 use Rattle.rules.specs.Reading.{read_answer}
@@ -29,12 +28,12 @@ apart number column value h k m = record { number_is = omega arith; column_is = 
 
 exact : {b : ℕ} → b < wide → (a : Answer) → Answers.Small b (said a) → ExactAnswer a
 unfolding packed
-exact h (Done n) w = record {
+exact h (Ok n) w = record {
   parts = apart 0 0 n (omega arith) (omega arith) (omega (arith, w.value));
   success = (λ _. (n, refl), λ _. omega (arith, w.value));
 }
-exact h (Refused e i) w = record {
-  parts = apart e.number e.column i (omega (arith, w.number)) (omega (arith, w.column)) (omega (arith, w.value));
+exact h (Err r) w = record {
+  parts = apart (refusal_number r.refusal) (refusal_column r.refusal) r.line (omega (arith, w.number)) (omega (arith, w.column)) (omega (arith, w.value));
   success = (λ p. absurd (omega (arith, w.named)), λ p. absurd (let z : ◌≡◌ {A = ℕ} 0 1 = cc p.1 in omega arith));
 }
 
@@ -51,17 +50,17 @@ unfolding hole_packed with_block hole_numbers
 exact_hole t n k b = by (hole_answer t n k) refl
   where
     by : (a : HoleAnswer) → hole_answer t n k ≡ a → Exact (with_block a b)
-    by (H.Makes h) e =
+    by (Ok (Some h)) e =
         cond_all Exact (leb hole_width (length b)) (λ _. apart 0 0 1 (omega arith) (omega arith) (omega arith)) (λ _. apart 15 0 0 (omega arith) (omega arith) (omega arith))
-    by H.Nothing e =
+    by (Ok None) e =
         cond_all Exact (leb hole_width (length b)) (λ _. apart 0 0 0 (omega arith) (omega arith) (omega arith)) (λ _. apart 15 0 0 (omega arith) (omega arith) (omega arith))
-    by (H.Refused f i) e = let w = Answers.hole_small t n k f i e in apart f.number f.column i (omega (arith, w.number)) (omega (arith, w.column)) (omega (arith, w.value))
+    by (Err r) e = let w = Answers.hole_small t n k r.refusal r.line e in apart (refusal_number r.refusal) (refusal_column r.refusal) r.line (omega (arith, w.number)) (omega (arith, w.column)) (omega (arith, w.value))
 
 -- ---- where a block of counts is lent
 
 small_block : {b : ℕ} (a : Answer) → Answers.Small b (said a) → Answers.Small b (said (no_block a))
-small_block (Done n) w = record { named = omega arith; value = omega arith; number = omega arith; column = omega arith }
-small_block (Refused e i) w = w
+small_block (Ok n) w = record { named = omega arith; value = omega arith; number = omega arith; column = omega arith }
+small_block (Err r) w = w
 
 exact_read : (rev : Revision) (bs : List ℕ) (t : List ℤ) (b : List ℕ) → ExactAnswer (read_there rev bs t b)
 unfolding read_there

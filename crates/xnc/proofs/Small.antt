@@ -5,15 +5,11 @@ use mathlib.Core.List.{List}
 use Prim.Native.Nat.{ℕ, ◌<◌}
 use native.Mathlib.Omega.{arith}
 use lib.IntN.{ℤ}
-use Rattle.rules.specs.declared.Answer.{Answer}
-use Rattle.rules.specs.declared.Answer.TheVariants.{Refused}
+use Rattle.rules.specs.Results.{Answer, HoleAnswer, refused_at}
 use Rattle.rules.specs.declared.Refusal.{Refusal}
-use Rattle.rules.specs.declared.HoleAnswer.{HoleAnswer}
-use Rattle.rules.specs.declared.HoleAnswer.TheVariants as H
 use Rattle.rules.specs.declared.Revision.{Revision}
 use Rattle.rules.specs.declared.Counts.{Counts}
 use Rattle.rules.specs.Answers.{Said, refused, said, hole_said}
-use Rattle.rules.specs.Refusals.{no_room, no_such_tool}
 use Rattle.rules.specs.Reading.{read_answer}
 use Rattle.rules.specs.Editing.{meeting_answer, edit_answer}
 use Rattle.rules.specs.Asking.{hole_answer}
@@ -37,16 +33,6 @@ edit_small rev table n line text c h = narrow_of (omega arith) h (Answers.edit_s
 pub write_small : (table : List ℤ) (n : ℕ) (text : List ℕ) {s : Said} → s ≡ said (write_answer table n text) → Narrow s
 write_small table n text h = narrow_of (omega arith) h (Answers.write_small table n text)
 
-pub hole_small : (table : List ℤ) (n line : ℕ) {a : HoleAnswer} → hole_said a ≡ hole_said (hole_answer table n line) → (e : Refusal) (i : ℕ) → a ≡ H.Refused e i
+pub hole_small : (table : List ℤ) (n line : ℕ) {a : HoleAnswer} → hole_said a ≡ hole_said (hole_answer table n line) → (e : Refusal) (i : ℕ) → a ≡ refused_at e i
     → Narrow (refused e i)
 hole_small table n line h e i w = narrow_of (omega arith) refl (Answers.hole_small table n line e i (sym (hole_said_one h) ∙ w))
-
--- of an answer that is a refusal
-pub refusal_small : {a : Answer} (e : Refusal) (i : ℕ) → a ≡ Refused e i → Narrow (said a) → Narrow (refused e i)
-refusal_small e i w h = subst (λ (x : Answer). Narrow (said x)) w h
-
-pub no_room_small : Narrow (refused no_room 0)
-no_room_small = record { number = omega arith; column = omega arith; value = omega arith }
-
-pub no_tool_small : Narrow (refused no_such_tool 0)
-no_tool_small = record { number = omega arith; column = omega arith; value = omega arith }

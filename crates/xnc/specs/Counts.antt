@@ -1,10 +1,9 @@
 -- The counts in a lent block: the hits of tools 1 to 99, then their routs. A block under 198 numbers is 15 at line 0, after every
 -- refusal that does not look into it, and then nothing lent changes.
-use Rattle.std.specs.Prelude.{◌≡◌, Bool, cond, List, ◌++◌, ℕ, leb, ℤ, length, take, drop}
+use Rattle.rules.specs.Results.{Answer, refused_at}
+use Rattle.std.specs.Prelude.{◌≡◌, Bool, cond, List, ◌++◌, ℕ, leb, ℤ, length, take, drop, Ok, Err}
 use Rattle.lists.specs.Put.{put_at}
 use Rattle.rules.specs.declared.Revision.{Revision}
-use Rattle.rules.specs.declared.Answer.{Answer}
-use Rattle.rules.specs.declared.Answer.TheVariants.{Done, Refused}
 use Rattle.rules.specs.declared.Counts.{Counts}
 use Rattle.rules.specs.Refusals.{no_room}
 use Rattle.rules.specs.Numbers.{max_tool}
@@ -27,8 +26,8 @@ has_block b = leb counts_width (length b)
 
 -- the answer to a call whose block is too short: a is that of the tests which do not look into it
 abbrev pub no_block : Answer → Answer
-no_block (Done n) = Refused no_room 0
-no_block (Refused e i) = Refused e i
+no_block (Ok n) = refused_at no_room 0
+no_block (Err r) = refused_at r.refusal r.line
 
 -- a call whose tests do not look into the block
 abbrev pub last_block : List ℕ → Answer → Answer
@@ -36,8 +35,8 @@ last_block b a = cond (has_block b) a (no_block a)
 
 -- the counts, put first on success
 abbrev pub counts_left : Answer → List ℕ → Counts → List ℕ
-counts_left (Done n) b c = put_at b 0 (counts_numbers c)
-counts_left (Refused e i) b c = b
+counts_left (Ok n) b c = put_at b 0 (counts_numbers c)
+counts_left (Err r) b c = b
 
 -- how many of so many lent numbers reading may write, with so many for the counts
 abbrev pub room_for : ℕ → ℕ → ℕ

@@ -1,15 +1,13 @@
 -- The revision that a number names, and an answer as one number of 64 bits: its number in document 01, its column, and the count or line.
-use Rattle.std.specs.Prelude.{cond, List, [], ◌∷◌, ℕ, ◌+◌, ◌*◌, ◌<◌, ◌≤◌, leb, eqb, ℤ, length}
+use Rattle.rules.specs.Results.{Answer, HoleAnswer, refused_at}
+use Rattle.std.specs.Prelude.{cond, List, [], ◌∷◌, ℕ, ◌+◌, ◌*◌, ◌<◌, ◌≤◌, leb, eqb, ℤ, length, Some, None, Ok, Err}
 use Rattle.lists.specs.Put.{put_at}
 use Rattle.rules.specs.declared.Revision.{Revision}
 use Rattle.rules.specs.declared.Revision.TheVariants.{Rev2019, Rev2021}
 use Rattle.rules.specs.declared.Hole.{Hole}
-use Rattle.rules.specs.declared.HoleAnswer.{HoleAnswer}
-use Rattle.rules.specs.declared.HoleAnswer.TheVariants as H
 use Rattle.rules.specs.Refusals.{no_room}
 use Rattle.rules.specs.Answers.{Said, success, refusal, number_of, value_of, column_of, refused, said, hole_said}
 use Rattle.rules.specs.declared.Refusal.{Refusal}
-use Rattle.rules.specs.declared.Answer.{Answer}
 
 -- 2019 is that revision, any other number 2021
 abbrev pub revision_of : ℕ → Revision
@@ -54,9 +52,9 @@ pub record HoleOk (h : Hole) : Type 0 where
 
 -- a short block is 15 at line 0, after all other refusals
 unfoldable pub with_block : HoleAnswer → List ℤ → HoleAnswer
-with_block (H.Makes h) b = cond (leb hole_width (length b)) (H.Makes h) (H.Refused no_room 0)
-with_block H.Nothing b = cond (leb hole_width (length b)) H.Nothing (H.Refused no_room 0)
-with_block (H.Refused e i) b = H.Refused e i
+with_block (Ok (Some h)) b = cond (leb hole_width (length b)) (Ok (Some h)) (refused_at no_room 0)
+with_block (Ok None) b = cond (leb hole_width (length b)) (Ok None) (refused_at no_room 0)
+with_block (Err r) b = refused_at r.refusal r.line
 
 -- 1 where there is a hole, 0 where there is none; else the refusal's line
 abbrev pub hole_value : Said → ℕ

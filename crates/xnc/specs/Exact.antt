@@ -1,8 +1,7 @@
 -- An answer at the door is exact: its parts are found again as include/xnc.h takes them apart, and it is below 2^32 exactly on success.
-use Rattle.std.specs.Prelude.{◌≡◌, List, ℕ, ◌*◌, ◌/◌, ◌%◌, ◌<◌, ℤ, get_or}
+use Rattle.rules.specs.Results.{Answer}
+use Rattle.std.specs.Prelude.{◌≡◌, List, ℕ, ◌*◌, ◌/◌, ◌%◌, ◌<◌, ℤ, get_or, Ok}
 use Rattle.lists.specs.Exactly.{Exactly}
-use Rattle.rules.specs.declared.Answer.{Answer}
-use Rattle.rules.specs.declared.Answer.TheVariants.{Done}
 use Rattle.rules.specs.declared.Revision.{Revision}
 use Rattle.rules.specs.Answers.{number_of, value_of, column_of, said, hole_said}
 use Rattle.rules.specs.Counting.{hits_answer, routs_answer}
@@ -20,7 +19,7 @@ pub record TakenApart (r number column value : ℕ) : Type 0 where
 -- of reading, editing and writing
 pub record ExactAnswer (a : Answer) : Type 0 where
   pub parts : TakenApart (packed a) (number_of (said a)) (column_of (said a)) (value_of (said a))
-  pub success : Exactly (packed a < wide) ((n : ℕ) × (a ≡ Done n))
+  pub success : Exactly (packed a < wide) ((n : ℕ) × (a ≡ Ok n))
 
 -- 32-bit numbers, as a lent block of counts has them
 abbrev pub Block : List ℕ → Type 0

@@ -2,7 +2,7 @@
 // line of the refusal or, where the number is 0, the count.
 #![tactic(auto)]
 
-ghost use Rattle.std.specs.Prelude.{◌≡◌, ◌+◌, ◌≤◌, length, take, drop};
+ghost use Rattle.std.specs.Prelude.{◌≡◌, ◌+◌, ◌≤◌, IfOk, length, take, drop};
 ghost use Rattle.lists.specs.Put.{put_at};
 ghost use Rattle.rules.specs.Numbers.{max_tool};
 ghost use Rattle.rules.specs.Answers.{refused, said, hole_numbers};
@@ -10,11 +10,9 @@ ghost use Rattle.rules.specs.Counting.{count_of, hits_answer, routs_answer};
 ghost use Rattle.rules.specs.Writing.{write_answer, write_leaves};
 ghost use Rattle.rules.specs.Asking.{hole_answer};
 ghost use Rattle.xnc.specs.Door.{hole_width, revision_of, Narrow, packed, packed_refusal, HoleOk, hole_packed, hole_leaves};
-ghost use Rattle.xnc.specs.Counts.{counts_width, counts_numbers, counts_in, no_block, last_block, room_for, ReadDoor, EditDoor};
+ghost use Rattle.xnc.specs.Counts.{counts_width, counts_numbers, counts_in, no_block, last_block, counts_left, room_for, ReadDoor, EditDoor};
 
-use rules::{
-    Answer, Counts, Hole, HoleAnswer, MAX_TOOL, NO_ROOM, NO_SUCH_TOOL, Refusal, Revision, TOOLS,
-};
+use rules::{Counted, Counts, Hole, MAX_TOOL, NO_SUCH_TOOL, Refusal, Refused, Revision, TOOLS};
 
 const NUMBER_SHIFT: u64 = 281474976710656;
 
@@ -37,22 +35,23 @@ fn revision_of(number: u32) -> Revision
 }
 
 // A refusal's number, column and line. No line and no count comes near 2^32, no number or column near 2^16, so nothing is cut off.
-fn pack_refusal(refusal: Refusal, line: usize) -> u64
-    requires { Narrow (refused refusal line) }
-    ensures { result ≡ packed_refusal refusal line }
+fn pack_refusal(no: Refused) -> u64
+    requires { Narrow (refused no.refusal no.line) }
+    ensures { result ≡ packed_refusal no.refusal no.line }
 {
-    let number = refusal.number as u64;
-    let column = refusal.column as u64;
-    number * NUMBER_SHIFT + column * COLUMN_SHIFT + line as u64
+    let number = u64::from(no.refusal.number());
+    let column = no.refusal.column() as u64;
+    number * NUMBER_SHIFT + column * COLUMN_SHIFT + no.line as u64
 }
 
-fn pack(answer: Answer) -> u64
+#[tactic(auto, unfolding(crate::specs::Door::packed))]
+fn pack(answer: Result<usize, Refused>) -> u64
     requires { Narrow (said answer) }
     ensures { result ≡ packed answer }
 {
     match answer {
-        Answer::Done(count) => count as u64,
-        Answer::Refused(refusal, line) => pack_refusal(refusal, line),
+        Ok(count) => count as u64,
+        Err(refused) => pack_refusal(refused),
     }
 }
 
@@ -63,25 +62,17 @@ fn part_at(block: &[u32], at: usize) -> [u32; TOOLS]
     requires { at + max_tool ≤ length block.now }
     ensures { result ≡ take max_tool (drop at block.now) }
 {
-    let mut part = [0u32; TOOLS];
-    let mut i = 0;
-    while i < TOOLS {
-        part[i] = block[at + i];
-        i += 1;
-    }
+    let mut part = [0; TOOLS];
+    part.copy_from_slice(&block[at..at + TOOLS]);
     part
 }
 
 // The same back to the block, the rest as it was.
-fn put_part(block: &mut [u32], at: usize, part: &[u32])
-    requires { at + length part.now ≤ length block.old }
+fn put_part(block: &mut [u32], at: usize, part: &[u32; TOOLS])
+    requires { at + max_tool ≤ length block.old }
     ensures { block.new ≡ put_at block.old at part.now }
 {
-    let mut i = 0;
-    while i < part.len() {
-        block[at + i] = part[i];
-        i += 1;
-    }
+    block[at..at + TOOLS].copy_from_slice(part);
 }
 
 fn counts_in(block: &[u32]) -> Counts
@@ -94,12 +85,25 @@ fn counts_in(block: &[u32]) -> Counts
     }
 }
 
-fn put_counts(block: &mut [u32], counts: Counts)
+fn put_counts(block: &mut [u32], counts: &Counts)
     requires { counts_width ≤ length block.old }
-    ensures { block.new ≡ put_at block.old 0 (counts_numbers counts) }
+    ensures { block.new ≡ put_at block.old 0 (counts_numbers counts.now) }
 {
     put_part(block, 0, &counts.hits);
     put_part(block, TOOLS, &counts.routs);
+}
+
+// What a call that counts answers. On success the counts are put into the block.
+fn hand_out(block: &mut [u32], counted: &Counted) -> u64
+    requires narrow { Narrow (said counted.now.answer) }
+    requires room { IfOk counted.now.answer (λ n. counts_width ≤ length block.old) }
+    ensures answer { result ≡ packed counted.now.answer }
+    ensures counts { block.new ≡ counts_left counted.now.answer block.old counted.now.counts }
+{
+    if counted.answer.is_ok() {
+        put_counts(block, &counted.counts);
+    }
+    pack(counted.answer)
 }
 
 // How many of the lent numbers reading may write: none where the block is too short for the counts. Then every file is refused, for
@@ -119,25 +123,15 @@ pub fn xnc_read(file: &[u8], revision: u32, table: &mut [i32], counts: &mut [u32
 {
     let room = room_for(table.len(), counts.len());
     let read = reader::read(file, revision_of(revision), &mut table[..room]);
-    let answer = read.answer;
-    match answer {
-        Answer::Refused(refusal, line) => pack_refusal(refusal, line),
-        Answer::Done(n) => {
-            put_counts(counts, read.counts);
-            n as u64
-        }
-    }
+    hand_out(counts, &read)
 }
 
 // The answer where the block is too short: 15 after every refusal that does not look into it.
-fn pack_without_block(answer: Answer) -> u64
+fn pack_without_block(answer: Result<usize, Refused>) -> u64
     requires { Narrow (said answer) }
     ensures { result ≡ packed (no_block answer) }
 {
-    match answer {
-        Answer::Done(_) => pack_refusal(NO_ROOM, 0),
-        Answer::Refused(refusal, line) => pack_refusal(refusal, line),
-    }
+    pack(answer.and(Err(Refusal::NoRoom.at(0))))
 }
 
 /// See include/xnc.h.
@@ -156,34 +150,26 @@ pub fn xnc_edit(
         return pack_without_block(editor::meeting(table, n, line, text, by));
     }
     let edited = editor::edit(table, n, line, text, by, counts_in(counts));
-    let answer = edited.answer;
-    match answer {
-        Answer::Refused(refusal, at) => pack_refusal(refusal, at),
-        Answer::Done(meeting) => {
-            put_counts(counts, edited.counts);
-            meeting as u64
-        }
-    }
+    hand_out(counts, &edited)
 }
 
 // A tool's count, of those from a place of the block on.
+#[tactic(auto, using(crate::proofs::Blocks::part_get), unfolding(crate::specs::Door::packed, rules::specs::Numbers::is_tool))]
 fn count_at(block: &[u32], at: usize, tool: u32) -> u64
     requires { at + max_tool ≤ counts_width }
     ensures { result ≡ packed (last_block block.now (count_of (take max_tool (drop at block.now)) tool)) }
 {
-    if tool == 0 {
-        return pack_refusal(NO_SUCH_TOOL, 0);
-    }
-    if MAX_TOOL < tool {
-        return pack_refusal(NO_SUCH_TOOL, 0);
+    if tool == 0 || MAX_TOOL < tool {
+        return pack_refusal(NO_SUCH_TOOL.at(0));
     }
     if block.len() < COUNTS_WIDTH {
-        return pack_refusal(NO_ROOM, 0);
+        return pack_refusal(Refusal::NoRoom.at(0));
     }
-    block[at + (tool as usize - 1)] as u64
+    u64::from(block[at + (tool as usize - 1)])
 }
 
 /// See include/xnc.h.
+#[tactic(auto, unfolding(rules::specs::Counting::hits_answer))]
 pub fn xnc_hits(counts: &[u32], tool: u32) -> u64
     ensures { result ≡ packed (last_block counts.now (hits_answer (counts_in counts.now) tool)) }
 {
@@ -191,6 +177,7 @@ pub fn xnc_hits(counts: &[u32], tool: u32) -> u64
 }
 
 /// See include/xnc.h.
+#[tactic(auto, unfolding(rules::specs::Counting::routs_answer))]
 pub fn xnc_routs(counts: &[u32], tool: u32) -> u64
     ensures { result ≡ packed (last_block counts.now (routs_answer (counts_in counts.now) tool)) }
 {
@@ -198,47 +185,40 @@ pub fn xnc_routs(counts: &[u32], tool: u32) -> u64
 }
 
 // A hole's seven numbers at the front of the block, the rest as it was.
+#[tactic(auto, unfolding(rules::specs::Answers::hole_numbers))]
 fn put_hole(block: &mut [i32], h: Hole)
     requires { (hole_width ≤ length block.old) × HoleOk h }
     ensures { block.new ≡ put_at block.old 0 (hole_numbers h) }
 {
-    let start = h.start;
-    let end = h.end;
-    let kind = h.kind as i32;
-    let tool = h.tool as i32;
-    let start_x = start.x;
-    let start_y = start.y;
-    let end_x = end.x;
-    let end_y = end.y;
-    let radius = h.radius as i32;
-    block[0] = kind;
-    block[1] = tool;
-    block[2] = start_x;
-    block[3] = start_y;
-    block[4] = end_x;
-    block[5] = end_y;
-    block[6] = radius;
+    block[..HOLE_WIDTH].copy_from_slice(&[
+        h.kind as i32,
+        h.tool as i32,
+        h.start.x,
+        h.start.y,
+        h.end.x,
+        h.end.y,
+        h.radius as i32,
+    ]);
 }
 
 /// See include/xnc.h.
+#[tactic(auto, using(rules::proofs::Said::hole_said_one), unfolding(crate::specs::Door::hole_packed, crate::specs::Door::hole_leaves, crate::specs::Door::with_block, rules::specs::Answers::hole_numbers))]
 pub fn xnc_hole(table: &[i32], n: usize, line: usize, hole: &mut [i32]) -> u64
     ensures { (result ≡ hole_packed (hole_answer table.now n line) hole.old) × (hole.new ≡ hole_leaves (hole_answer table.now n line) hole.old) }
 {
-    match query::hole(table, n, line) {
-        HoleAnswer::Refused(refusal, at) => pack_refusal(refusal, at),
-        HoleAnswer::Nothing => {
-            if hole.len() < HOLE_WIDTH {
-                return pack_refusal(NO_ROOM, 0);
-            }
-            0
-        }
-        HoleAnswer::Makes(made) => {
-            if hole.len() < HOLE_WIDTH {
-                return pack_refusal(NO_ROOM, 0);
-            }
+    let answer = match query::hole(table, n, line) {
+        Ok(answer) => answer,
+        Err(refused) => return pack_refusal(refused),
+    };
+    if hole.len() < HOLE_WIDTH {
+        return pack_refusal(Refusal::NoRoom.at(0));
+    }
+    match answer {
+        Some(made) => {
             put_hole(hole, made);
             1
         }
+        None => 0,
     }
 }
 

@@ -1,6 +1,6 @@
 -- A declaration of this tool, of another one, or no declaration: each way out is one law.
 use borrow.Enum.Refused.{opened}
-use Rattle.gives.proofs.Gives.{declared_this, declared_not, declared_other}
+use Rattle.gives.proofs.Gives.{declared_not, declared_other}
 use Rattle.gives.proofs.diameter.Goals as goal
 
 pub returns-else-t-tool : goal.returns-else-t-tool

@@ -1,27 +1,19 @@
--- Up to i no LF was passed: the place counted from i is the place counted from where the line begins.
-use mathlib.Core.Path.{refl}
-use native.Mathlib.Omega.{arith}
-use Rattle.line.proofs.Lines.{find_end, find_hit, find_next}
+-- What `position` finds in the rest of the file is the place of its LF.
+use Rattle.std.proofs.Common.{◌≡◌, ◌==◌, position, arith, rules}
+use Rattle.std.proofs.lemmas.Iterator.{YieldsList-from_slice}
+use Rattle.std.proofs.lemmas.Iterator.Search.{position_from_yields_List}
+use Rattle.std.proofs.lemmas.List.{take_rest}
+use borrow.Author.Tests.{tests}
+use Rattle.rules.specs.Lines.{LF}
+use Rattle.line.proofs.Lines.{find_first, find_end}
 use Rattle.line.proofs.find_lf.Goals as goal
 
-pub loop-i-init : goal.loop-i-init
-loop-i-init c = refl
-
-pub bounds-file-i : goal.bounds-file-i
-bounds-file-i c = omega arith
-
-pub overflow_add-i : goal.overflow_add-i
-overflow_add-i c = omega arith
-
-pub loop-i-smaller : goal.loop-i-smaller
-loop-i-smaller c = omega arith
-
-pub loop-i-preserved : goal.loop-i-preserved
-loop-i-preserved c =
-    let e = find_next c.args.file.now c.loop-i.i c.loop-i-test.true c.if-file-i-eq10.false in
-    omega arith
+pub returns-in_default : goal.returns-in_default
+returns-in_default c = grind (arith, find_end)
 
 pub returns : goal.returns
 returns c =
-    let e = find_end c.args.file.now c.loop-i.i c.loop-i-test.false in
-    omega arith
+    let rest = c.in-Some.rest.now in
+    let found : c.position.result ≡ position (λ b. b == LF) rest =
+    position_from_yields_List (λ b. b == LF) _ _ c.position.result c.position.ensures.ran (YieldsList-from_slice rest cc) (λ x b q k. search (rules, tests)) in
+    grind (arith, find_first, take_rest)

@@ -9,6 +9,6 @@ pub returns-then-x-lt0 : goal.returns-then-x-lt0
 returns-then-x-lt0 c =
     omega (arith, ap length (minus_text coordinate_signed c.args.x c.ranges.x _ c.size.ensures c.if-x-lt0.true))
 
-pub returns : goal.returns
-returns c =
+pub returns-else-x-lt0 : goal.returns-else-x-lt0
+returns-else-x-lt0 c =
     omega (arith, ap length (plain_text coordinate_signed c.args.x c.ranges.x _ c.size.ensures c.if-x-lt0.false))

@@ -1,20 +1,13 @@
 -- Nothing for a whole number, else the point and then the decimals. The invariant: whoever writes the decimals of what is left has
 -- written all. The measure: how many there are.
-use mathlib.Core.Path.{◌∙◌}
 use native.Mathlib.Omega.{arith}
 use Rattle.rules.specs.Writing.{places_of}
 use Rattle.millionths.proofs.Numbers.{no_decimals, no_fraction, some_fraction, no_places, places_turn, decimals_turn}
-use Rattle.text.proofs.Wrote.{wrote_length, wrote_nothing, wrote_more, rest_turn, rest_length, rest_end}
+use Rattle.text.proofs.Wrote.{wrote_nothing, wrote_more, rest_turn, rest_end}
 use Rattle.millionths.proofs.put_fraction.Goals as goal
 
 pub returns-then-millionths-eq0 : goal.returns-then-millionths-eq0
 returns-then-millionths-eq0 c = rw (no_fraction _ _ (no_places _ c.if-millionths-eq0.true)) wrote_nothing
-
-pub loop-rest-init : goal.loop-rest-init
-loop-rest-init c = (omega arith, λ _ _ w. w)
-
-pub overflow_mul-tenfold : goal.overflow_mul-tenfold
-overflow_mul-tenfold c = omega arith
 
 pub loop-rest-smaller : goal.loop-rest-smaller
 loop-rest-smaller c = let l = c.loop-rest in omega (arith, places_turn l.rest (omega arith) l.invariant.0)
@@ -24,9 +17,6 @@ loop-rest-preserved c =
     let l = c.loop-rest in
     let p = places_turn l.rest c.loop-rest-test.true l.invariant.0 in
     (omega arith, rest_turn _ l.invariant.1 _ (decimals_turn l.rest p.0 p.1) c.put_digit-end.ensures)
-
-pub shape_of-b : goal.shape_of-b
-shape_of-b c = rest_length _ c.loop-rest.invariant.1 ∙ wrote_length c.put_byte-end.ensures
 
 pub returns : goal.returns
 returns c =

@@ -1,17 +1,10 @@
 -- A quarter of the sum is compared with a quarter of the square; beyond 32 bits a half is beyond every sum.
-use Prim.Native.Nat.{◌+◌, ◌/◌, ◌%◌}
 use native.Mathlib.Omega.{arith}
-use native.Mathlib.Nat.{mul-le-mul}
 use Rattle.points.proofs.Quarters.{sum_quarter, sum_below}
 use Rattle.points.proofs.at_most_square.Goals as goal
 
 pub returns-then-q-gt-LARGEST : goal.returns-then-q-gt-LARGEST
 returns-then-q-gt-LARGEST c = sum_below _ _ _ (omega arith) (omega arith) c.if-q-gt-LARGEST.true
-
-pub overflow_mul-result : goal.overflow_mul-result
-overflow_mul-result c =
-    let s = c.args.s in
-    omega (arith, mul-le-mul {n₁ = s / 2} {m₁ = s / 2 + s % 2} {n₂ = 4294967295} {m₂ = 4294967296} (omega arith) (omega arith))
 
 pub returns : goal.returns
 returns c = rw c.quarter_of_sum.ensures (sum_quarter _ _ _)

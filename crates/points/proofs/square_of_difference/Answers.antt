@@ -2,13 +2,9 @@
 use mathlib.Core.Path.{sym}
 use lib.IntN.{◌-ℤ◌}
 use mir.Facts.{to_z-of_z}
-use native.Mathlib.Omega.{arith}
 use Rattle.points.specs.Points.{square_of_difference}
 use Rattle.points.proofs.Signed.{square_abs, square_bound}
 use Rattle.points.proofs.square_of_difference.Goals as goal
-
-pub overflow_mul-result : goal.overflow_mul-result
-overflow_mul-result c = omega (arith, square_bound c.distance-d.result 4294967295 c.distance-d.ensures.1)
 
 pub returns : goal.returns
 unfolding square_of_difference

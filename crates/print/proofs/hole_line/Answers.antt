@@ -1,18 +1,15 @@
 -- The room is tested first; then the line has room: its fields have at most 72 bytes.
 use Prim.Native.Nat.{◌≤◌}
 use native.Mathlib.Omega.{arith}
-use borrow.Author.Tests.{le-leb, lt-leb}
+use borrow.Author.Tests.{le-leb}
 use lib.ListN.{length}
 use Rattle.rules.specs.Printing.{decimal, hole_fields}
 use Rattle.text.proofs.Decimals.{decimal_range}
 use Rattle.print.specs.Fields.{tabbed}
 use Rattle.print.specs.Line.{line_room}
-use Rattle.print.proofs.Lines.{nothing_put, line_put, line_length, hole_short}
+use Rattle.print.proofs.Lines.{line_put, line_length, hole_short}
 use borrow.Author.Rules.{rules}
 use Rattle.print.proofs.hole_line.Goals as goal
-
-pub returns-then-block-lt-LINE_ROOM : goal.returns-then-block-lt-LINE_ROOM
-returns-then-block-lt-LINE_ROOM c = nothing_put _ _ _ (lt-leb line_room _ c.if-block-lt-LINE_ROOM.true)
 
 pub returns : goal.returns
 returns c =

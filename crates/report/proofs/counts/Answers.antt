@@ -1,21 +1,8 @@
--- The room, then the reading, which hands out the counts; one law for each way out.
-use Rattle.report.proofs.Answers.{counts_shows, not_fitting, file_refused, some_lines, counts_done}
+-- What is put for the rows is the print-out of `counts`.
+use Rattle.std.proofs.Common.{rules}
+use Rattle.report.specs.Parts.{counts_out}
+use Rattle.report.proofs.Answers.{counts_prints}
 use Rattle.report.proofs.counts.Goals as goal
 
-pub returns-then-not-blocks_fit : goal.returns-then-not-blocks_fit
-returns-then-not-blocks_fit c =
-    not_fitting (counts_shows c.args.revision c.args.file.now) c.args.table.now c.args.text.now c.blocks_fit.ensures c.if-not-blocks_fit.true-raw
-
-pub put_counts_of_rows-requires : goal.put_counts_of_rows-requires
-put_counts_of_rows-requires c =
-    some_lines c.read-read.ensures _ c.in-Done.is
-
-pub returns-in-Refused : goal.returns-in-Refused
-returns-in-Refused c =
-    file_refused (counts_shows c.args.revision c.args.file.now) c.args.table.now c.args.text.now c.blocks_fit.ensures c.if-not-blocks_fit.false-raw
-    c.read-read.ensures _ _ c.in-Refused.is c.put_refused.ensures
-
-pub returns-in-Done : goal.returns-in-Done
-returns-in-Done c =
-    counts_done c.read-read.ensures _ c.in-Done.is c.args.text.now c.blocks_fit.ensures
-    c.if-not-blocks_fit.false-raw c.put_counts_of_rows.ensures
+pub returns : goal.returns
+returns c = c.print_out.ensures counts_out _ (λ b t n s k r b' p. search rules) (counts_prints c.args.revision c.args.file.now)

@@ -5,4 +5,4 @@ use Rattle.spell.proofs.put_tool.Goals as goal
 
 pub returns : goal.returns
 unfolding tool_text
-returns c = search wrote_more
+returns c = wrote_more c.put_byte-digits.ensures (rw c.from.ensures at c.put_digits.ensures)

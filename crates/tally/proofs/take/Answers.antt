@@ -1,51 +1,30 @@
 -- The first rows are taken away; where a tool has fewer, the rows take more than it had.
-use mathlib.Core.Path.{sym, ap, ◌∙◌}
-use mathlib.Core.Bool.{false≢true}
+use mathlib.Core.Path.{sym, ◌∙◌}
 use native.Mathlib.Omega.{arith}
-use lib.ListN.{length}
-use Rattle.laws.proofs.EachTool.{length_each}
-use Rattle.tally.proofs.Steps.{few_length, taking_none, taking_next, taking_stops, taking_over}
+use Rattle.tally.proofs.Steps.{tool_there, taking_none, taking_with, taking_without, taking_stops, taking_over}
+use Rattle.tally.proofs.Whole.{takes_none}
+use Rattle.tally.proofs.take.Goals.{in-Some+in_ok-counts, in_default}
 use Rattle.tally.proofs.take.Goals as goal
 
-pub loop-i-init : goal.loop-i-init
-loop-i-init c = (omega arith, taking_none _ _ _ c.requires)
+pub loop-row-init : goal.loop-row-init
+loop-row-init c = taking_none _ _ _ c.told-counts
 
-pub tool_in-requires : goal.tool_in-requires
-tool_in-requires c = omega arith
+pub returns-in_err-counts : goal.returns-in_err-counts
+returns-in_err-counts c =
+    let e = c.in-Some.ensures.0 ∙ tool_there _ _ c.as_chunks.ensures.front (omega arith) in
+    takes_none c.from_residual.ensures
+    (taking_stops _ _ _ _ c.loop-row.invariant e c.in-Some.ensures.1 c.in-Some.ensures.2 (omega arith) c.in_err-counts.ensures)
 
-pub take_one-requires : goal.take_one-requires
-take_one-requires c = (ap length c.loop-i.invariant.1.left ∙ length_each _, c.tool_in.ensures.1)
-
-pub shape_of-counts-then-not-take_one : goal.shape_of-counts-then-not-take_one
-shape_of-counts-then-not-take_one c =
-    ap length c.take_one.ensures.1 ∙ few_length _ _
-    ∙ ap length c.loop-i.invariant.1.left ∙ length_each _
-    ∙ sym c.requires
-
-pub returns-then-not-take_one : goal.returns-then-not-take_one
-returns-then-not-take_one c =
-    record {
-      answer = sym (taking_stops _ _ c.args.counts.now _ _ c.tool_in.ensures.0 c.tool_in.ensures.1 c.loop-i.invariant.1
-          c.loop-i-test.true (sym c.take_one.ensures.0 ∙ c.if-not-take_one.true));
-      left = λ e. absurd (false≢true e);
-    }
-
-pub overflow_add-i : goal.overflow_add-i
-overflow_add-i c = omega arith
-
-pub loop-i-smaller : goal.loop-i-smaller
-loop-i-smaller c = omega arith
-
-pub loop-i-preserved : goal.loop-i-preserved
-loop-i-preserved c = (
-  omega arith,
-  rw c.take_one.ensures.1
-      (taking_next _ _ c.args.counts.now _ _ c.tool_in.ensures.0 c.tool_in.ensures.1 c.loop-i.invariant.1
-      (sym c.take_one.ensures.0 ∙ c.if-not-take_one.false)),
-)
-
-pub shape_of-counts : goal.shape_of-counts
-shape_of-counts c = ap length c.loop-i.invariant.1.left ∙ length_each _ ∙ sym c.requires
+pub loop-row-preserved : goal.loop-row-preserved
+loop-row-preserved c = elim c.match-tool_in.branch [
+  | in-Some+in_ok-counts w ↦
+      let e = w.in-Some.ensures.0 ∙ tool_there _ _ c.as_chunks.ensures.front (omega arith) in
+      rw (w.counts-is, w.in_ok-counts.ensures.1)
+      (taking_with _ _ _ _ c.loop-row.invariant e w.in-Some.ensures.1 w.in-Some.ensures.2 w.in_ok-counts.ensures.0)
+  | in_default w ↦
+      rw w.counts-is
+      (taking_without _ _ _ _ c.loop-row.invariant (sym (tool_there _ _ c.as_chunks.ensures.front (omega arith)) ∙ w.in_default.ensures))
+]
 
 pub returns : goal.returns
-returns c = taking_over _ _ _ (omega arith) c.loop-i.invariant.1
+returns c = taking_over _ _ _ (omega arith) c.loop-row.invariant

@@ -1,5 +1,5 @@
 use mathlib.Core.Path.{◌≡◌}
-use Prim.Native.Nat.{◌-◌, ◌*◌, ◌≤◌}
+use Prim.Native.Nat.{◌*◌, ◌≤◌}
 use lib.ListN.{drop}
 use Rattle.rules.specs.State.{start}
 use Rattle.rules.specs.Rows.{entries_of}
@@ -10,7 +10,4 @@ use Rattle.writer.proofs.measure.Given as goal
 abbrev pub invariant-loop-i : goal.invariant-loop-i
 invariant-loop-i l =
     (bytes_from l.bytes (follow_from l.state (drop l.i (entries_of l.n l.table)) l.i) ≡ bytes_from 0 (follow_from start (entries_of l.n l.table) 0))
-    × (l.bytes ≤ longest_line * l.i) × (l.i ≤ l.n)
-
-abbrev pub decreases-loop-i : goal.decreases-loop-i
-decreases-loop-i l = l.n - l.i
+    × (l.bytes ≤ longest_line * l.i)

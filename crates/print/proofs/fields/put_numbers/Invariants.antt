@@ -1,13 +1,9 @@
-use Prim.Native.Nat.{◌-◌}
-use lib.ListN.{length}
-use Rattle.text.proofs.Wrote.{Rest}
+use lib.ListN.{take}
+use Rattle.text.specs.Wrote.{Wrote}
 use Rattle.print.specs.Fields.{tabbed}
 use Rattle.print.specs.Line.{decimals}
-use Rattle.print.proofs.Turns.{text_from}
 use Rattle.print.proofs.fields.put_numbers.Given as goal
 
-abbrev pub invariant-loop-i : goal.invariant-loop-i
-invariant-loop-i l = Rest l.initial.b l.at (tabbed (decimals l.numbers)) l.b l.end (text_from l.numbers l.i)
-
-abbrev pub decreases-loop-i : goal.decreases-loop-i
-decreases-loop-i l = length l.numbers - l.i
+-- the fields of the numbers before this turn's are written
+abbrev pub invariant-loop-n : goal.invariant-loop-n
+invariant-loop-n l = Wrote l.initial.b l.at (tabbed (decimals (take l.n-index l.numbers))) l.b l.end

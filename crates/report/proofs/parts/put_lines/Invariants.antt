@@ -6,7 +6,4 @@ use Rattle.report.proofs.parts.put_lines.Given as goal
 
 abbrev pub invariant-loop-i : goal.invariant-loop-i
 invariant-loop-i l =
-    (l.i ≤ l.n) × (l.holes ≤ l.i) × (l.holes + holes_in l.table l.n l.i (l.n - l.i) ≡ holes_in l.table l.n 0 l.n) × Rest l.initial.text l.at (lines_text l.table l.n 0 l.n) l.text l.end (lines_text l.table l.n l.i (l.n - l.i))
-
-abbrev pub decreases-loop-i : goal.decreases-loop-i
-decreases-loop-i l = l.n - l.i
+    (l.holes ≤ l.i) × (l.holes + holes_in l.table l.n l.i (l.n - l.i) ≡ holes_in l.table l.n 0 l.n) × Rest l.initial.text l.at (lines_text l.table l.n 0 l.n) l.text l.end (lines_text l.table l.n l.i (l.n - l.i))

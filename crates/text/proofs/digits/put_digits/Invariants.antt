@@ -1,10 +1,10 @@
 use mathlib.Core.Path.{◌≡◌}
-use lib.ListN.{take}
+use Prim.Native.Nat.{◌+◌, ◌-◌}
+use Rattle.lists.specs.Put.{fitting}
 use Rattle.rules.specs.Writing.{last_digits}
 use Rattle.text.proofs.digits.put_digits.Given as goal
 
-abbrev pub invariant-loop-left : goal.invariant-loop-left
-invariant-loop-left l = take l.room (last_digits l.left l.rest) ≡ take l.room (last_digits l.count l.n)
-
-abbrev pub decreases-loop-left : goal.decreases-loop-left
-decreases-loop-left l = l.left
+-- as many of the digits left have room, and they are the same
+abbrev pub invariant-loop : goal.invariant-loop
+invariant-loop l =
+    fitting l.b l.at (last_digits (l.fitting + l.count - l.counter) l.rest) ≡ fitting l.b l.at (last_digits l.count l.n)

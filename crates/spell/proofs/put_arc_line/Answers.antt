@@ -1,6 +1,0 @@
--- The word, the arc and the line's end.
-use Rattle.text.proofs.Wrote.{wrote_more}
-use Rattle.spell.proofs.put_arc_line.Goals as goal
-
-pub returns : goal.returns
-returns c = search wrote_more
