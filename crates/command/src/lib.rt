@@ -1,5 +1,6 @@
 // Bytes to a command. The first of them say which forms a line can have. Its form is decided to the line's end before any
 // number is asked for its range.
+// Kept: bytes and a place side by side, as crate number takes them.
 #![tactic(auto)]
 
 ghost use Rattle.std.specs.Prelude.{◌≡◌, ◌≤◌, MatchOption};

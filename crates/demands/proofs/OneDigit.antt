@@ -63,8 +63,8 @@ not_5 l w =
     (λ _. cond_all Not5 (is_printable l) (λ _. command_not_5 l w) (λ _ e. omega arith))
     (λ _ e. omega arith)
 
-pub never_5 : (l : List ℕ) → OneDigit l → line_of Rev2019 l ≡ says_no no_such_form → ⊥
-never_5 l w e = not_5 l w (ap (λ (a : LineAnswer). number_in a.command) e)
+pub never_5 : (l : List ℕ) → OneDigit l → (e : Refusal) → line_of Rev2019 l ≡ says_no e → refusal_number e ≡ 5 → ⊥
+never_5 l w e h five = not_5 l w (ap (λ (a : LineAnswer). number_in a.command) h ∙ five)
 
 -- ---- every other line
 

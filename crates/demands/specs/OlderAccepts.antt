@@ -2,10 +2,11 @@
 -- edit, of every table. They differ in a declaration with one digit and in nothing else.
 use Rattle.std.specs.Prelude.{◌≡◌, List, ◌++◌, ℕ, ◌≤◌, ℤ, length, Ok}
 use Rattle.lists.specs.Words.{bytes}
+use Rattle.rules.specs.declared.Refusal.{Refusal}
 use Rattle.rules.specs.declared.Revision.TheVariants.{Rev2019, Rev2021}
 use Rattle.rules.specs.declared.Command.TheVariants.{Declare}
 use Rattle.rules.specs.declared.Counts.{Counts}
-use Rattle.rules.specs.Refusals.{no_such_form, out_of_range}
+use Rattle.rules.specs.Refusals.{refusal_number, no_such_form, out_of_range}
 use Rattle.rules.specs.Numbers.{max_line, Decimal}
 use Rattle.rules.specs.Commands.{says, says_no, line_of}
 use Rattle.rules.specs.Reading.{Rows, read_answer, read_leaves}
@@ -36,5 +37,5 @@ pub record OlderAccepts : Type 0 where
   -- every other line has one answer by both; that one is 5 by 2021, and never 5 by 2019
   pub all_else : (l : List ℕ) → (OneDigit l → ⊥) → line_of Rev2019 l ≡ line_of Rev2021 l
   pub always_5 : (l : List ℕ) → OneDigit l → length l ≤ max_line → Printable l → line_of Rev2021 l ≡ says_no no_such_form
-  pub never_5 : (l : List ℕ) → OneDigit l → line_of Rev2019 l ≡ says_no no_such_form → ⊥
+  pub never_5 : (l : List ℕ) → OneDigit l → (e : Refusal) → line_of Rev2019 l ≡ says_no e → refusal_number e ≡ 5 → ⊥
   pub lines : OneDigitLines

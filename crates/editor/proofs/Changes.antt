@@ -7,7 +7,7 @@ use native.Mathlib.Omega.{arith}
 use lib.IntN.{ℤ}
 use lib.ListN.{length, take, drop, length-drop}
 use lib.Seq.{take_at}
-use Rattle.std.specs.Prelude.{Option, Some, None, is_some, Ok, Err}
+use Rattle.std.specs.Prelude.{Result, is_ok, Ok, Err}
 use Rattle.rules.specs.Results.{at_line}
 use Rattle.lists.specs.Put.{put_at}
 use Rattle.lists.proofs.Put.{put_at_lem}
@@ -88,15 +88,15 @@ module _ (rev : Revision) (t : List ℤ) (n k : ℕ) (l : List ℕ) where
       taken_is : without_rows counts (numbers_of t (row_width * (k - 1)) (row_width * m)) ≡ without_rows counts (table_numbers (old_rows (entries_of n t) k w.span))
       taken_is = ap (without_rows counts) (old_numbers w (edit_stood rev t n k l w.span w.verdict))
 
-      fit : {o : Option Counts} → without_rows counts (numbers_of t (row_width * (k - 1)) (row_width * m)) ≡ o → is_some o ≡ counts_fit (old_rows (entries_of n t) k w.span) counts
-      fit e = ap is_some (sym e ∙ taken_is) ∙ fits_is (old_rows (entries_of n t) k w.span) counts
+      fit : {o : Result Counts Counts} → without_rows counts (numbers_of t (row_width * (k - 1)) (row_width * m)) ≡ o → is_ok o ≡ counts_fit (old_rows (entries_of n t) k w.span) counts
+      fit e = ap is_ok (sym e ∙ taken_is) ∙ fits_is (old_rows (entries_of n t) k w.span) counts
 
-      pub edit_unfit : {a : Counted} → a ≡ not_edited (at_line bad_table 0) counts
-          → without_rows counts (numbers_of t (row_width * (k - 1)) (row_width * m)) ≡ None → EditIs rev t n k l counts a t
+      pub edit_unfit : {a : Counted} {x : Counts} → a ≡ not_edited (at_line bad_table 0) counts
+          → without_rows counts (numbers_of t (row_width * (k - 1)) (row_width * m)) ≡ Err x → EditIs rev t n k l counts a t
       unfolding edit_answer edit_leaves edit_counts edit_counted
       edit_unfit z e = let f = sym (fit e) in rw z (record { answer = rw (w.verdict, f); leaves = rw (w.verdict, f); counts = rw (w.verdict, f) })
 
-      pub edit_done : {left after : Counts} {t' : List ℤ} → without_rows counts (numbers_of t (row_width * (k - 1)) (row_width * m)) ≡ Some left
+      pub edit_done : {left after : Counts} {t' : List ℤ} → without_rows counts (numbers_of t (row_width * (k - 1)) (row_width * m)) ≡ Ok left
           → t' ≡ put_at t (row_width * (k - 1)) (table_numbers (new_rows (entries_of n t) k m c q))
           → after ≡ with_rows left (numbers_of t' (row_width * (k - 1)) (row_width * m))
           → EditIs rev t n k l counts (record { answer = Ok m; counts = after }) t'

@@ -54,6 +54,7 @@ fn find_meeting(table: &[i32], n: usize, from: usize, before: State) -> Result<u
 }
 
 // The same rows again, each written with its new state, up to the meeting line.
+// Kept: a walk of its own, since nothing is written before the verdict.
 #[tactic(auto, using(crate::proofs::Spans::span_rules))]
 fn write_span(table: &mut [i32], n: usize, from: usize, before: State)
     requires { (row_width * n ≤ length table.old) × (from ≤ n) × StateOk before }
@@ -117,6 +118,7 @@ fn ask(
 ) -> Result<Change, Refused>
     ensures { Asks table.now n line (edit_of revision table.now n line text.now) result }
 {
+    // Kept: tests one by one, in document 01's order.
     if !table::sizes_fit(table, n) {
         return Err(Refusal::BadTable.at(0));
     }
@@ -193,7 +195,7 @@ pub fn edit(
         Ok(change) => {
             let first = ROW_WIDTH * (line - 1);
             let end = ROW_WIDTH * change.meeting;
-            let Some(left) = tally::without_rows(counts, &table[first..end]) else {
+            let Ok(left) = tally::without_rows(counts, &table[first..end]) else {
                 return not_edited(Refusal::BadTable.at(0), counts);
             };
             write(table, n, line, change);

@@ -5,39 +5,11 @@ use Prim.Native.Nat.{ℕ}
 use denote.Enum.Declared.{tag_of}
 use types.Run.{OneOf, miss}
 use borrow.Author.Tests.{eq-eqb, ne_eqb}
-use Rattle.std.specs.Prelude.{Some, None, Ok}
-use Rattle.points.specs.declared.Point.{Point}
+use Rattle.std.specs.Prelude.{Some, None}
 use Rattle.rules.specs.declared.Command.{Command}
 use Rattle.rules.specs.contracts.Command.{the_type}
 use Rattle.rules.specs.declared.Command.TheVariants.{Comment, M48, Metric, Inch, Declare, Percent, G05, G00, Select, Hit, M15, M16, G01, G02, G03, M30}
-use Rattle.rules.specs.declared.State.{State}
-use Rattle.rules.specs.Holes.{hole_of}
 use Rattle.rules.specs.Asking.{declared_by}
-
--- the kinds that make none, in the order of the commands
-abbrev silent : List ℕ
-silent = 0 ∷ 1 ∷ 2 ∷ 3 ∷ 4 ∷ 5 ∷ 6 ∷ 7 ∷ 8 ∷ 10 ∷ 11 ∷ 15 ∷ []
-
-pub no_hole : (from : Point) (c : Command) (s : State) → OneOf silent (tag_of the_type c) → Ok None ≡ hole_of from c s
-unfolding hole_of
-no_hole from Comment s h = refl
-no_hole from M48 s h = refl
-no_hole from Metric s h = refl
-no_hole from Inch s h = refl
-no_hole from (Declare t d) s h = refl
-no_hole from Percent s h = refl
-no_hole from G05 s h = refl
-no_hole from (G00 p) s h = refl
-no_hole from (Select t) s h = refl
-no_hole from (Hit p) s h = absurd (miss silent 9 tt h)
-no_hole from M15 s h = refl
-no_hole from M16 s h = refl
-no_hole from (G01 p) s h = absurd (miss silent 12 tt h)
-no_hole from (G02 a) s h = absurd (miss silent 13 tt h)
-no_hole from (G03 a) s h = absurd (miss silent 14 tt h)
-no_hole from M30 s h = refl
-
--- ---- declarations
 
 abbrev others : List ℕ
 others = 0 ∷ 1 ∷ 2 ∷ 3 ∷ 5 ∷ 6 ∷ 7 ∷ 8 ∷ 9 ∷ 10 ∷ 11 ∷ 12 ∷ 13 ∷ 14 ∷ 15 ∷ []

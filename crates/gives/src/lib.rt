@@ -9,37 +9,44 @@ ghost use Rattle.rules.specs.Holes as Holes;
 use points::Point;
 use rules::{Command, Hole, Refused, State, kind};
 
-fn made(
-    kind: u32,
-    tool: u32,
-    start: Point,
-    end: Point,
-    radius: u32,
-) -> Result<Option<Hole>, Refused>
-    ensures { result ≡ Holes.made kind tool start end radius }
-{
-    Ok(Some(Hole {
-        kind,
-        tool,
-        start,
-        end,
-        radius,
-    }))
-}
-
 /// The hole that a command makes, given the point before it and the state after it.
 #[tactic(auto, unfolding(rules::specs::Holes::hole_of))]
 pub fn hole(command: Command, from: Point, state: State) -> Result<Option<Hole>, Refused>
     ensures { hole_said result ≡ hole_said (Holes.hole_of from command state) }
 {
     let tool = state.tool;
-    match command {
-        Command::Hit(p) => made(kind::HIT, tool, p, p, 0),
-        Command::G01(p) => made(kind::G01, tool, from, p, 0),
-        Command::G02(a) => made(kind::G02, tool, from, a.to, a.radius),
-        Command::G03(a) => made(kind::G03, tool, from, a.to, a.radius),
-        _ => Ok(None),
-    }
+    let hole = match command {
+        Command::Hit(p) => Hole {
+            kind: kind::HIT,
+            tool,
+            start: p,
+            end: p,
+            radius: 0,
+        },
+        Command::G01(p) => Hole {
+            kind: kind::G01,
+            tool,
+            start: from,
+            end: p,
+            radius: 0,
+        },
+        Command::G02(a) => Hole {
+            kind: kind::G02,
+            tool,
+            start: from,
+            end: a.to,
+            radius: a.radius,
+        },
+        Command::G03(a) => Hole {
+            kind: kind::G03,
+            tool,
+            start: from,
+            end: a.to,
+            radius: a.radius,
+        },
+        _ => return Ok(None),
+    };
+    Ok(Some(hole))
 }
 
 /// The diameter that a command declares for a tool, if it does.

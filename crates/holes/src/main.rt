@@ -13,12 +13,11 @@ fn print_report(output: &impl Print, file: &[u8], revision: Revision) {
     show::word(output, &text[..length]);
 }
 
-// Kept: alike in each program. A function that is handed what to do with the file has a `requires`, and no public function may
-// (docs/PROMISES.md).
+// Kept: alike in each program, and short. A function that is handed what to do with the file would be no plainer.
 fn read_file(input: &mut impl Read, output: &impl Print, errors: &impl Print, revision: Revision) {
     // One byte more than a file may have, so that a longer one is seen.
     let mut file = [0u8; MAX_FILE + 1];
-    if let Some(got) = show::read_input(input, errors, &mut file) {
+    if let Ok(got) = show::read_input(input, errors, &mut file) {
         print_report(output, &file[..got], revision);
     }
 }

@@ -7,9 +7,10 @@ ghost use Rattle.rules.specs.Commands.{says_no, line_of};
 ghost use Rattle.rules.specs.Reading.{answer_in};
 ghost use Rattle.line.specs.Line.{line_of_bytes, find_lf};
 
-use rules::{Command, LineAnswer, MAX_LINE, MAX_LINES, Refusal, Revision};
+use rules::{LineAnswer, MAX_LINE, MAX_LINES, Refusal, Revision};
 
 /// Where the line that begins at `from` has its LF, or the file's end; past the end it is `from` itself.
+// Kept: the end where there is no LF, and no option: docs/PROMISES.md has that promise.
 pub fn find_lf(file: &[u8], from: usize) -> usize
     ensures { result ≡ from + find_lf (drop from file.now) }
 {
@@ -63,6 +64,7 @@ pub fn read(text: &[u8], revision: Revision) -> LineAnswer
 
 /// What a line of a file says by a revision, given its number, its bytes up to its LF, and whether the LF is there: 2, 3, then its
 /// text's own.
+// Kept: `ended` beside the bytes: docs/PROMISES.md has that promise.
 #[tactic(auto, using(crate::proofs::Texts::too_many, crate::proofs::Texts::not_ended, crate::proofs::Texts::text_says))]
 pub fn answer(number: usize, line: &[u8], ended: bool, revision: Revision) -> LineAnswer
     ensures { result ≡ answer_in revision number (line_of_bytes line.now ended) }

@@ -1,4 +1,5 @@
 // Numbers of millionths as text: how long it is, and its bytes, from place `at` on as crate text has it.
+// Kept: bytes and place as two parameters, as in crate text, for the same reason.
 #![tactic(auto)]
 
 ghost use Rattle.std.specs.Prelude.{◌≡◌, ℕ, ◌+◌, ◌%◌, ◌≤◌, ◌<◌, min, [], ◌∷◌, length};

@@ -3,29 +3,19 @@
 // text read by that revision.
 #![tactic(auto)]
 
-ghost use Rattle.std.specs.Prelude.{◌≡◌, ◌≤◌, IfSome};
+ghost use Rattle.std.specs.Prelude.{◌≡◌};
 ghost use Rattle.moves.specs.Moves as Moves;
 
 use rules::{Counts, Hole, MAX_FILE, MAX_TOOL, Refusal, Revision, TABLE_ROOM};
 use show::LineFault;
 use std::io::{Print, Read};
 
-#[tactic(auto, using(points::proofs::Same::same_point_eq), unfolding(crate::specs::Moves::same_hole))]
-fn same_hole(a: Hole, b: Hole) -> bool
-    ensures { result ≡ Moves.same_hole a b }
-{
-    a == b
-}
-
 // Whether a line's hole moved, came or went.
+#[tactic(auto, using(points::proofs::Same::same_point_eq), unfolding(crate::specs::Moves::same_hole))]
 fn differs(old: Option<Hole>, new: Option<Hole>) -> bool
     ensures { result ≡ Moves.differ old new }
 {
-    match (old, new) {
-        (Some(a), Some(b)) => !same_hole(a, b),
-        (None, None) => false,
-        _ => true,
-    }
+    old != new
 }
 
 fn print_span(output: &impl Print, line: usize, meeting: usize) {
@@ -46,10 +36,18 @@ fn hole(table: &[i32], n: usize, line: usize) -> Option<Hole> {
     query::hole(table, n, line).ok()?
 }
 
+// A table of n rows before an edit and after it.
+#[derive(Clone, Copy)]
+struct Boards<'a> {
+    old: &'a [i32],
+    new: &'a [i32],
+    n: usize,
+}
+
 // The old and the new hole of a line where they differ, and whether they do.
-fn print_move(output: &impl Print, old: &[i32], new: &[i32], n: usize, line: usize) -> bool {
-    let before = hole(old, n, line);
-    let after = hole(new, n, line);
+fn print_move(output: &impl Print, boards: Boards, line: usize) -> bool {
+    let before = hole(boards.old, boards.n, line);
+    let after = hole(boards.new, boards.n, line);
     if differs(before, after) {
         print_hole(output, b"-\t", line, before);
         print_hole(output, b"+\t", line, after);
@@ -59,43 +57,34 @@ fn print_move(output: &impl Print, old: &[i32], new: &[i32], n: usize, line: usi
 }
 
 // The holes that differ from a line to the meeting line, and how many lines have one.
-fn print_moves(
-    output: &impl Print,
-    old: &[i32],
-    new: &[i32],
-    n: usize,
-    line: usize,
-    meeting: usize,
-) -> usize
-    requires { 1 ≤ line }
-{
+fn print_moves(output: &impl Print, boards: Boards, line: usize, meeting: usize) -> usize {
     let mut count: usize = 0;
     for passed in line..=meeting {
-        if print_move(output, old, new, n, passed) {
-            count += 1;
+        if print_move(output, boards, passed) {
+            count = count.saturating_add(1);
         }
     }
     count
 }
 
-// A tool's diameter, 0 where it isn't declared.
-fn diameter(table: &[i32], n: usize, tool: u32) -> u32 {
-    query::diameter(table, n, tool).unwrap_or(0)
-}
-
-fn print_tool(output: &impl Print, old: &[i32], new: &[i32], n: usize, tool: u32) {
-    let before = diameter(old, n, tool);
-    let after = diameter(new, n, tool);
+// A tool's diameters, where they differ. One that isn't declared has none, and is printed as 0.
+fn print_tool(output: &impl Print, boards: Boards, tool: u32) {
+    let before = query::diameter(boards.old, boards.n, tool).ok();
+    let after = query::diameter(boards.new, boards.n, tool).ok();
     if before != after {
-        let fields = [tool as u64, before as u64, after as u64];
+        let fields = [
+            u64::from(tool),
+            u64::from(before.unwrap_or(0)),
+            u64::from(after.unwrap_or(0)),
+        ];
         show::numbers(output, b"tool", &fields);
     }
 }
 
 // The tools whose diameter differs, by number.
-fn print_tools(output: &impl Print, old: &[i32], new: &[i32], n: usize) {
+fn print_tools(output: &impl Print, boards: Boards) {
     for tool in 1..=MAX_TOOL {
-        print_tool(output, old, new, n, tool);
+        print_tool(output, boards, tool);
     }
 }
 
@@ -113,26 +102,23 @@ fn try_edit(
     text: &[u8],
     revision: Revision,
     counts: Counts,
-)
-    requires { 1 ≤ line }
-{
+) {
     let mut new = *old;
     let edited = editor::edit(&mut new, n, line, text, revision, counts);
     match edited.answer {
         Err(refused) => show::refused(output, refused),
         Ok(meeting) => {
+            let boards = Boards { old, new: &new, n };
             print_span(output, line, meeting);
-            let count = print_moves(output, old, &new, n, line, meeting);
-            print_tools(output, old, &new, n);
+            let count = print_moves(output, boards, line, meeting);
+            print_tools(output, boards);
             print_count(output, count);
         }
     }
 }
 
-// The number that one to four digits give, where it is not 0. Other bytes give none.
-fn line_number(digits: &[u8]) -> Option<usize>
-    ensures { IfSome result (λ line. 1 ≤ line) }
-{
+// The number that at most four digits give; 0, which no digit or only zeros give, is no line's. Other bytes give none.
+fn line_number(digits: &[u8]) -> Option<usize> {
     if 4 < digits.len() {
         return None;
     }
@@ -143,16 +129,11 @@ fn line_number(digits: &[u8]) -> Option<usize>
         }
         line = line * 10 + (digit - b'0') as usize;
     }
-    if line == 0 {
-        return None;
-    }
     Some(line)
 }
 
 // The line's number and its new text, parted by the first tab.
-fn parted(first: &[u8]) -> Option<(usize, &[u8])>
-    ensures { IfSome result (λ p. 1 ≤ p.0) }
-{
+fn parted(first: &[u8]) -> Option<(usize, &[u8])> {
     let tab = first.iter().position(|byte| *byte == b'\t')?;
     let line = line_number(&first[..tab])?;
     Some((line, &first[tab + 1..]))
@@ -182,8 +163,7 @@ fn report(output: &impl Print, first: &[u8], file: &[u8], revision: Revision) {
     }
 }
 
-// Kept: alike in each program. A function that is handed what to do with the file has a `requires`, and no public function may
-// (docs/PROMISES.md).
+// Kept: alike in each program, and short. A function that is handed what to do with the file would be no plainer.
 fn read_file(
     input: &mut impl Read,
     output: &impl Print,
@@ -193,7 +173,7 @@ fn read_file(
 ) {
     // One byte more than a file may have, so that a longer one is seen.
     let mut file = [0u8; MAX_FILE + 1];
-    if let Some(got) = show::read_input(input, errors, &mut file) {
+    if let Ok(got) = show::read_input(input, errors, &mut file) {
         report(output, first, &file[..got], revision);
     }
 }

@@ -12,6 +12,11 @@ use borrow.Author.Tests.{le-leb, lt-leb, leb-true}
 use lib.Dec.{eqb, leb}
 use lib.ListN.{length, get_or, drop, drop_of_length-le, length-drop}
 use lib.Seq.{drop-cons, drop-drop}
+use Rattle.std.specs.Prelude.{Option, Some, None}
+use Rattle.std.specs.Borrow.{Bor}
+use Rattle.std.specs.Option.{UnwrapsOrElse}
+use Rattle.std.specs.List.{PartBy}
+use Rattle.std.proofs.lemmas.List.{take_rest}
 use Rattle.lists.proofs.Choice.{cond_all, both}
 use Rattle.lists.specs.Words.{starts_with}
 use Rattle.rules.specs.Numbers.{max_tool, DigitRun, no_digits, one_more, is_digit, digits_of}
@@ -79,28 +84,40 @@ above_digits b p = rw (lt-leb b (code "9") p, and-false)
 abbrev Held : List ℕ → ℕ → ℕ → Run → Type 0
 Held s at from r = (r ≡ held_run at from (digits_of (drop at s))) × (r.value ≤ cap) × (at ≤ r.next)
 
--- up to i they make the value: those from here on, behind it, are the whole
-abbrev pub Passed : List ℕ → ℕ → ℕ → ℕ → ℕ → Type 0
-Passed s at from i value = (held_run i value (digits_of (drop i s)) ≡ held_run at from (digits_of (drop at s))) × (value ≤ cap) × (at ≤ i)
+-- the bytes from at on; past the end there are none
+pub bytes_from : (s : List ℕ) (at : ℕ) (r : Option (Bor (List ℕ))) (l : Bor (List ℕ)) → PartBy (λ (x : Bor (List ℕ)). x.now) s at (length s) r
+    → UnwrapsOrElse r (λ (x : Bor (List ℕ)). x.now ≡ []) l → l.now ≡ drop at s
+bytes_from s at None l p e = e ∙ sym (drop_of_length-le s (omega (arith, p.0)))
+bytes_from s at (Some x) l p e = ap (λ (z : Bor (List ℕ)). z.now) e ∙ p.0.2 ∙ take_rest s at
 
-module _ (s : List ℕ) (at from i value : ℕ) (g : Passed s at from i value) where
-  pub run_turn : (more : ℕ) → i < length s → code "0" ≤ get_or s i 0 → get_or s i 0 ≤ code "9" → (more ≡ pushed value (get_or s i 0 - code "0")) × (more ≤ cap)
-      → Passed s at from (i + 1) more
+-- l are those bytes; the first k of them are in the run: with the digits after those behind it, it is the whole
+abbrev pub Passed : List ℕ → ℕ → ℕ → List ℕ → ℕ → Run → Type 0
+Passed s at from l k run =
+    (l ≡ drop at s) × (run.next ≡ at + k) × (held_run run.next run.value (digits_of (drop k l)) ≡ held_run at from (digits_of (drop at s))) × (run.value ≤ cap)
+
+pub run_start : (s : List ℕ) (at from : ℕ) {l : List ℕ} → from ≤ cap → l ≡ drop at s → Passed s at from l 0 (record { value = from; next = at })
+run_start s at from h e = (e, omega arith, ap (λ (z : List ℕ). held_run at from (digits_of z)) e, h)
+
+module _ (s : List ℕ) (at from : ℕ) {l : List ℕ} (k : ℕ) (run : Run) (g : Passed s at from l k run) where
+  pub run_turn : (more : ℕ) → k < length l → code "0" ≤ get_or l k 0 → get_or l k 0 ≤ code "9" → (more ≡ pushed run.value (get_or l k 0 - code "0")) × (more ≤ cap)
+      → Passed s at from l (k + 1) (record { value = more; next = run.next + 1 })
   run_turn more h p q e = (
-    ap (λ (z : ℕ). held_run (i + 1) z (digits_of (drop (i + 1) s))) e.0
-        ∙ run_more i value (get_or s i 0 - code "0") (digits_of (drop (i + 1) s))
-        ∙ ap (held_run i value) (sym (digits_turn s i h (is_digit_lem (get_or s i 0) p q))) ∙ g.0,
+    g.0,
+    omega (arith, g.1),
+    ap (λ (z : ℕ). held_run (run.next + 1) z (digits_of (drop (k + 1) l))) e.0
+        ∙ run_more run.next run.value (get_or l k 0 - code "0") (digits_of (drop (k + 1) l))
+        ∙ ap (held_run run.next run.value) (sym (digits_turn l k h (is_digit_lem (get_or l k 0) p q))) ∙ g.2,
     e.1,
-    omega arith,
   )
 
-  pub run_stop : i < length s → is_digit (get_or s i 0) ≡ false → Held s at from (record { value = value; next = i })
-  run_stop h e = (run_none i value (get_or s i 0 ∷ drop (suc i) s) g.1 ∙ ap (held_run i value) (sym (digits_stop s i h e)) ∙ g.0, g.1, g.2)
+  pub run_stop : k < length l → is_digit (get_or l k 0) ≡ false → Held s at from run
+  run_stop h e =
+      (run_none run.next run.value (get_or l k 0 ∷ drop (suc k) l) g.3 ∙ ap (held_run run.next run.value) (sym (digits_stop l k h e)) ∙ g.2, g.3, omega (arith, g.1))
 
-  pub run_end : length s ≤ i → Held s at from (record { value = value; next = i })
-  run_end h = (run_none i value [] g.1 ∙ ap (held_run i value) (sym (digits_end s i h)) ∙ g.0, g.1, g.2)
+  pub run_end : length l ≤ k → Held s at from run
+  run_end h = (run_none run.next run.value [] g.3 ∙ ap (held_run run.next run.value) (sym (digits_end l k h)) ∙ g.2, g.3, omega (arith, g.1))
 
-pub ruleset turns = (below_digits, above_digits, run_turn, run_stop, run_end)
+pub ruleset turns = (below_digits, above_digits, bytes_from, run_start, run_turn, run_stop, run_end)
 
 -- ---- how far the digits go, and how large they are
 

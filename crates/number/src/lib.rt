@@ -1,5 +1,6 @@
 // Bytes to a number. Whether the bytes are a number (the form) and whether the number is in range are two questions: a
 // number out of range still says where it ends, since the form of a whole line is decided before any range.
+// Kept: bytes and a place side by side: each function promises an answer at every place.
 #![tactic(auto)]
 
 ghost use Rattle.std.specs.Prelude.{◌≡◌, [], ◌∷◌, ◌<◌, ◌≤◌, ◌+◌, ◌*◌, ◌^◌, ◌-◌, length, drop, cond};
@@ -18,9 +19,6 @@ const MAX_PLACES: usize = rules::MAX_PLACES as usize;
 
 // The largest coordinate, diameter and radius, in millionths.
 const MAX_NUMBER: u64 = rules::MAX_NUMBER as u64;
-
-// The millionths in one unit of a number's last place, by how many places it has.
-const LAST_PLACE: [u64; 7] = [1_000_000, 100_000, 10_000, 1_000, 100, 10, 1];
 
 /// Digits: their value, exact below 1000000000, which stands for all from there on; and the place after them.
 #[derive(Clone, Copy)]
@@ -70,8 +68,8 @@ fn digits(s: &[u8], at: usize, from: u32) -> Run
         value: from,
         next: at,
     };
-    // Kept: a place that moves on, and no `for`: the place is part of the answer, also where it is past the end.
-    while let Some(b @ b'0'..=b'9') = s.get(run.next) {
+    for b in s.get(at..).unwrap_or_default() {
+        let b'0'..=b'9' = *b else { break };
         run.value = push(run.value, u32::from(*b - b'0'));
         run.next += 1;
     }
@@ -146,7 +144,7 @@ fn in_millionths(w: Written) -> Result<u32, Refusal>
     if w.places > MAX_PLACES {
         return Err(Refusal::OutOfRange(w.column));
     }
-    let n = u64::from(w.digits) * LAST_PLACE[w.places];
+    let n = u64::from(w.digits) * u64::from(points::place_of(w.places as u32));
     if n > MAX_NUMBER {
         return Err(Refusal::OutOfRange(w.column));
     }

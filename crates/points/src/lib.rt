@@ -24,6 +24,7 @@ const LARGEST: u64 = 4294967295;
 
 impl Point {
     /// Whether two points are one.
+    // Kept: a function beside `==`: docs/PROMISES.md has its promise.
     #[tactic(auto, using(crate::proofs::Same::same_point_eq))]
     pub fn same(self, other: Point) -> bool
         ensures { result ≡ S.same_point self other }
@@ -33,6 +34,7 @@ impl Point {
 }
 
 /// How far a and b are apart. The difference is signed and widened; its size is below 2^32, so that its square fits 64 bits.
+// Kept: widened first, which document 01 names as the form.
 pub fn distance(a: i32, b: i32) -> u64
     ensures { (result ≡ nat_abs (a -ℤ b)) × (result ≤ 4294967295) }
 {

@@ -1,5 +1,7 @@
 // The lines that the programs print, as bytes in a lent block: from a place on, or alone in a block of 128 bytes, which has room
 // for every line.
+// Kept: bytes and place as two parameters, as in crate text, for the same reason.
+// Kept: a line at a place and a line alone in a block as two functions each: `Wrote` and `PutIn` are two promises, and 0 is one of them.
 #![tactic(auto)]
 
 ghost use Rattle.std.specs.Prelude.{◌≡◌, leb, length};

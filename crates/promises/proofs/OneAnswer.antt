@@ -28,6 +28,8 @@ use Rattle.rules.proofs.Refusal.column.Kinds as refusal_column_kinds
 use Rattle.rules.proofs.Refusal.column.Reads as refusal_column_reads
 use Rattle.rules.proofs.Refusal.at.Kinds as refusal_at_kinds
 use Rattle.rules.proofs.Refusal.at.Reads as refusal_at_reads
+use Rattle.rules.proofs.Refused.numbers.Kinds as refused_numbers_kinds
+use Rattle.rules.proofs.Refused.numbers.Reads as refused_numbers_reads
 use Rattle.rules.proofs.State.new.Kinds as state_new_kinds
 use Rattle.rules.proofs.State.new.Reads as state_new_reads
 use Rattle.rules.proofs.State.step.Kinds as state_step_kinds
@@ -192,6 +194,9 @@ refusal_column κs a x y e f p q = same p q
 
 pub refusal_at : OneAnswer 0 refusal_at_kinds.ps refusal_at_kinds.r refusal_at_reads.Post
 refusal_at κs a x y e f p q = same p q
+
+pub refused_numbers : OneAnswer 0 refused_numbers_kinds.ps refused_numbers_kinds.r refused_numbers_reads.Post
+refused_numbers κs a x y e f p q = same p q
 
 pub tools_has : OneAnswer 0 tools_has_kinds.ps tools_has_kinds.r tools_has_reads.Post
 tools_has κs a x y e f p q = same p q

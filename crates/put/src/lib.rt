@@ -20,6 +20,7 @@ fn signed(n: u32) -> i32
     i32::try_from(n).unwrap_or(i32::MAX)
 }
 
+// Kept: no From: it could stand in crate rules alone, whose matter rows are not.
 // The command's numbers: its kind, and those that the kind carries, where the others are 0: the tool, the point, the diameter or
 // the radius, and the radius's decimals.
 #[tactic(auto, unfolding(rules::specs::Rows::command_numbers, rules::specs::Rows::decimals_of, crate::specs::PutRow::capped, crate::specs::PutRow::capped_command))]

@@ -1,5 +1,5 @@
 // Questions put to a lent table: the hole of a line, a tool's diameter.
-// Kept: the numbers and n side by side. C lends them so, and each function promises an answer for every n, one that fits or not.
+// Kept: the numbers and n side by side. C lends them so, and each public function promises an answer for every n, one that fits or not.
 #![tactic(auto)]
 
 ghost use Rattle.std.specs.Prelude.{◌≡◌, ◌*◌, ◌≤◌, length};
@@ -14,6 +14,7 @@ use rules::{Hole, MAX_TOOL, NO_SUCH_TOOL, Refusal, Refused};
 pub fn hole(table: &[i32], n: usize, line: usize) -> Result<Option<Hole>, Refused>
     ensures { hole_said result ≡ hole_said (Asking.hole_answer table.now n line) }
 {
+    // Kept: tests one by one, in document 01's order.
     if !table::sizes_fit(table, n) {
         return Err(Refusal::BadTable.at(0));
     }
@@ -54,7 +55,7 @@ pub fn diameter(table: &[i32], n: usize, tool: u32) -> Result<u32, Refused>
     if !table::sizes_fit(table, n) {
         return Err(Refusal::BadTable.at(0));
     }
-    if tool == 0 || MAX_TOOL < tool {
+    if !(1..=MAX_TOOL).contains(&tool) {
         return Err(NO_SUCH_TOOL.at(0));
     }
     find_diameter(table, n, tool)

@@ -1,13 +1,12 @@
 -- Reading, a line at a time: what is left to read, told from where we are, is what the whole file tells.
 use mathlib.Core.Path.{◌≡◌, refl, sym, ap, ◌∙◌}
 use mathlib.Core.Bool.{Bool, true, false, cond}
-use mathlib.Core.List.{List, []}
-use Prim.Native.Nat.{ℕ, suc, ◌+◌, ◌-◌, ◌*◌, ◌<◌, ◌≤◌}
+use mathlib.Core.List.{List, [], ◌∷◌}
+use Prim.Native.Nat.{ℕ, suc, ◌+◌, ◌*◌, ◌<◌, ◌≤◌}
 use native.Mathlib.Omega.{arith}
 use native.Mathlib.Decide.{dec_lt}
-use lib.Dec.{ltb}
 use lib.IntN.{ℤ}
-use lib.ListN.{length, take, drop}
+use lib.ListN.{length}
 use Rattle.rules.specs.Results.{refused_at}
 use Rattle.std.specs.Prelude.{Result, Ok, Err}
 use Rattle.lists.proofs.Put.{put_none}
@@ -27,8 +26,7 @@ use Rattle.rules.specs.Reading.{Rows, answer_in, command_in, run_from, run_of}
 use Rattle.rules.specs.Ranges.{StateOk, CommandOk}
 use Rattle.laws.proofs.Keeps.{keeps, start_ok}
 use Rattle.laws.proofs.InRange.{read_ok}
-use Rattle.line.specs.Line.{find_lf, line_of_bytes}
-use Rattle.line.proofs.Lines.{lines_at, lines_none}
+use Rattle.line.proofs.Lines.{lines_none}
 use Rattle.line.proofs.Texts.{too_many}
 use Rattle.put.specs.PutRow.{put_row}
 use Rattle.put.proofs.Puts.{put_next}
@@ -54,30 +52,26 @@ module _ (rev : Revision) (i : ℕ) (l : Line) {a : LineAnswer} (ha : a ≡ answ
         go (yes h) = absurd (let z : ◌≡◌ {A = ℕ} 0 1 = cc (ap (λ (b : LineAnswer). b.command) (too_many rev i l.bytes l.ended h ∙ sym ha) ∙ e) in omega arith)
         go (no h) = omega arith
 
--- ---- the lines from a place on: end is where the first of them has its LF, or the file's end
+-- ---- the lines that are left: r holds their bytes
 
-abbrev line_at : List ℕ → ℕ → ℕ → Line
-line_at s at end = line_of_bytes (take (end - at) (drop at s)) (ltb end (length s))
-
-module _ (rev : Revision) (s : List ℕ) (at : ℕ) (p : State) (n : ℕ) where
-  lines_over : length s ≤ at → run_from rev p (lines_of (drop at s)) n ≡ cond (has_ended p) (accepted []) (refused ends_too_soon (n + 1))
+module _ (rev : Revision) (r : List ℕ) (p : State) (n : ℕ) where
+  lines_over : length r ≤ 0 → run_from rev p (lines_of r) n ≡ cond (has_ended p) (accepted []) (refused ends_too_soon (n + 1))
   unfolding run
-  lines_over h = rw (lines_none s at h)
+  lines_over h = rw (lines_none r 0 h)
 
-  module _ (h : at < length s) (end : ℕ) (he : end ≡ at + find_lf (drop at s)) where
-    line_refused : (f : Refusal) → command_in rev (n + 1) (line_at s at end) ≡ stops f → run_from rev p (lines_of (drop at s)) n ≡ refused f (n + 1)
+  module _ (l : Line) (r' : List ℕ) (d : lines_of r ≡ l ∷ lines_of r') where
+    line_refused : (f : Refusal) → command_in rev (n + 1) l ≡ stops f → run_from rev p (lines_of r) n ≡ refused f (n + 1)
     unfolding run
-    line_refused f e = rw (lines_at s at end he h, e)
+    line_refused f e = rw (d, e)
 
-    module _ (c : Command) (e : command_in rev (n + 1) (line_at s at end) ≡ yields c) where
-      step_refused : (f : Refusal) → step p c ≡ Err f → run_from rev p (lines_of (drop at s)) n ≡ refused f (n + 1)
+    module _ (c : Command) (e : command_in rev (n + 1) l ≡ yields c) where
+      step_refused : (f : Refusal) → step p c ≡ Err f → run_from rev p (lines_of r) n ≡ refused f (n + 1)
       unfolding run
-      step_refused f w = rw (lines_at s at end he h, e, w)
+      step_refused f w = rw (d, e, w)
 
-      step_taken : (q : State) → step p c ≡ Ok q
-          → run_from rev p (lines_of (drop at s)) n ≡ before (record { command = c; state = q }) (run_from rev q (lines_of (drop (end + 1) s)) (n + 1))
+      step_taken : (q : State) → step p c ≡ Ok q → run_from rev p (lines_of r) n ≡ before (record { command = c; state = q }) (run_from rev q (lines_of r') (n + 1))
       unfolding run
-      step_taken q w = rw (lines_at s at end he h, e, w)
+      step_taken q w = rw (d, e, w)
 
 -- ---- one row more
 
@@ -90,52 +84,52 @@ left_before : (t : List ℤ) (n : ℕ) (c : Command) (q : State) → CommandOk c
 left_before t n c q cok sok h (accepted rs) = put_next t n c q cok sok h rs
 left_before t n c q cok sok h (refused e i) = refl
 
--- ---- the loop: n lines read, their rows in t, which was t₀; p is the state after them, and the next line begins at `at`
+-- ---- the loop: n lines read, their rows in t, which was t₀; p is the state after them, and r is what is left of the file
 
-pub record Going (rev : Revision) (s : List ℕ) (t₀ t : List ℤ) (p : State) (n at : ℕ) : Type 0 where
+pub record Going (rev : Revision) (s : List ℕ) (t₀ t : List ℤ) (p : State) (n : ℕ) (r : List ℕ) : Type 0 where
   pub count : n ≤ max_lines
   pub ok : StateOk p
-  pub told : told_from n (run_from rev p (lines_of (drop at s)) n) ≡ told_from 0 (run_of rev (lines_of s))
-  pub left : left_from t n (run_from rev p (lines_of (drop at s)) n) ≡ left_from t₀ 0 (run_of rev (lines_of s))
+  pub told : told_from n (run_from rev p (lines_of r) n) ≡ told_from 0 (run_of rev (lines_of s))
+  pub left : left_from t n (run_from rev p (lines_of r) n) ≡ left_from t₀ 0 (run_of rev (lines_of s))
 
-pub going_start : {rev : Revision} (s : List ℕ) (t : List ℤ) {p : State} → p ≡ start → Going rev s t t p 0 0
+pub going_start : {rev : Revision} (s : List ℕ) (t : List ℤ) {p : State} → p ≡ start → (r : List ℕ) → r ≡ s → Going rev s t t p 0 r
 unfolding run_of
-going_start s t e = rw e (record { count = omega arith; ok = start_ok; told = refl; left = refl })
+going_start s t e r w = rw (e, w) (record { count = omega arith; ok = start_ok; told = refl; left = refl })
 
-module _ {rev : Revision} (s : List ℕ) (t₀ t : List ℤ) (p : State) (n at : ℕ) (g : Going rev s t₀ t p n at) where
+module _ {rev : Revision} (s : List ℕ) (t₀ t : List ℤ) (p : State) (n : ℕ) (r : List ℕ) (g : Going rev s t₀ t p n r) where
   -- where the run from here refuses, the whole does
-  refuses : (f : Refusal) (i : ℕ) → run_from rev p (lines_of (drop at s)) n ≡ refused f i → LinesRead rev s t₀ (refused_at f i) t
+  refuses : (f : Refusal) (i : ℕ) → run_from rev p (lines_of r) n ≡ refused f i → LinesRead rev s t₀ (refused_at f i) t
   refuses f i e = record { answer = ap (told_from n) (sym e) ∙ g.told; block = tt }
 
-  pub turn_ended : length s ≤ at → {b : Bool} → b ≡ has_ended p → b ≡ true → LinesRead rev s t₀ (Ok n) t
+  pub turn_ended : length r ≤ 0 → {b : Bool} → b ≡ has_ended p → b ≡ true → LinesRead rev s t₀ (Ok n) t
   unfolding table_numbers
   turn_ended h e w =
-      let d : run_from rev p (lines_of (drop at s)) n ≡ accepted [] = lines_over rev s at p n h ∙ rw (sym e ∙ w) in
+      let d : run_from rev p (lines_of r) n ≡ accepted [] = lines_over rev r p n h ∙ rw (sym e ∙ w) in
       let a : n + 0 ≡ n = omega arith in
       record { answer = rw a at (ap (told_from n) (sym d) ∙ g.told); block = (g.count, sym (put_none t (row_width * n)) ∙ ap (left_from t n) (sym d) ∙ g.left) }
 
-  pub turn_short : length s ≤ at → {b : Bool} → b ≡ has_ended p → b ≡ false → LinesRead rev s t₀ (refused_at ends_too_soon (n + 1)) t
-  turn_short h e w = refuses ends_too_soon (n + 1) (lines_over rev s at p n h ∙ rw (sym e ∙ w))
+  pub turn_short : length r ≤ 0 → {b : Bool} → b ≡ has_ended p → b ≡ false → LinesRead rev s t₀ (refused_at ends_too_soon (n + 1)) t
+  turn_short h e w = refuses ends_too_soon (n + 1) (lines_over rev r p n h ∙ rw (sym e ∙ w))
 
-  module _ (h : at < length s) (end : ℕ) (he : end ≡ at + find_lf (drop at s)) {a : LineAnswer} (ha : a ≡ answer_in rev (n + 1) (line_at s at end)) where
+  module _ (l : Line) (r' : List ℕ) (d : lines_of r ≡ l ∷ lines_of r') {a : LineAnswer} (ha : a ≡ answer_in rev (n + 1) l) where
     pub turn_refused : (f : Refusal) → a.command ≡ Err f → LinesRead rev s t₀ (refused_at f (n + 1)) t
-    turn_refused f e = refuses f (n + 1) (line_refused rev s at p n h end he f (says_no_lem rev (n + 1) (line_at s at end) ha f e))
+    turn_refused f e = refuses f (n + 1) (line_refused rev r p n l r' d f (says_no_lem rev (n + 1) l ha f e))
 
     module _ (c : Command) (e : a.command ≡ Ok c) {x : Result State Refusal} (xe : x ≡ step p c) where
       pub turn_stopped : (f : Refusal) → x ≡ Err f → LinesRead rev s t₀ (refused_at f (n + 1)) t
-      turn_stopped f w = refuses f (n + 1) (step_refused rev s at p n h end he c (says_it rev (n + 1) (line_at s at end) ha c e) f (sym xe ∙ w))
+      turn_stopped f w = refuses f (n + 1) (step_refused rev r p n l r' d c (says_it rev (n + 1) l ha c e) f (sym xe ∙ w))
 
-      pub turn_on : (q : State) → x ≡ Ok q → table_room ≤ length t → (t' : List ℤ) → t' ≡ put_row t n c q → Going rev s t₀ t' q (n + 1) (end + 1)
+      pub turn_on : (q : State) → x ≡ Ok q → table_room ≤ length t → (t' : List ℤ) → t' ≡ put_row t n c q → Going rev s t₀ t' q (n + 1) r'
       turn_on q w room t' te =
-          let few : n + 1 ≤ max_lines = counts rev (n + 1) (line_at s at end) ha c e in
-          let said : command_in rev (n + 1) (line_at s at end) ≡ yields c = says_it rev (n + 1) (line_at s at end) ha c e in
-          let cok : CommandOk c = read_ok rev (n + 1) (line_at s at end) c said in
+          let few : n + 1 ≤ max_lines = counts rev (n + 1) l ha c e in
+          let said : command_in rev (n + 1) l ≡ yields c = says_it rev (n + 1) l ha c e in
+          let cok : CommandOk c = read_ok rev (n + 1) l c said in
           let sok : StateOk q = keeps p q c g.ok cok (sym xe ∙ w) in
-          let d = step_taken rev s at p n h end he c said q (sym xe ∙ w) in
-          let v = run_from rev q (lines_of (drop (end + 1) s)) (n + 1) in
+          let w' = step_taken rev r p n l r' d c said q (sym xe ∙ w) in
+          let v = run_from rev q (lines_of r') (n + 1) in
           record {
             count = few;
             ok = sok;
-            told = told_before n (record { command = c; state = q }) v ∙ ap (told_from n) (sym d) ∙ g.told;
-            left = ap (λ (z : List ℤ). left_from z (n + 1) v) te ∙ left_before t n c q cok sok (omega arith) v ∙ ap (left_from t n) (sym d) ∙ g.left;
+            told = told_before n (record { command = c; state = q }) v ∙ ap (told_from n) (sym w') ∙ g.told;
+            left = ap (λ (z : List ℤ). left_from z (n + 1) v) te ∙ left_before t n c q cok sok (omega arith) v ∙ ap (left_from t n) (sym w') ∙ g.left;
           }

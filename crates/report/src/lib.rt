@@ -1,6 +1,8 @@
 // The whole print-outs of the programs `holes` and `counts` as bytes in a lent block, so that a program only reads, calls and
 // writes. Each part writes from place `at` on, as crate text has it, and hands back the place after it; the longest print-out has
 // room.
+// Kept: bytes and place as two parameters, as in crate text, for the same reason.
+// Kept: 0 where a block is too short, which `Reports` promises; no print-out has 0 bytes.
 #![tactic(auto)]
 
 ghost use Rattle.std.specs.Prelude.{◌≡◌, List, ℕ};
@@ -33,13 +35,7 @@ fn blocks_fit(table: &[i32], text: &[u8]) -> bool
 fn put_refused(text: &mut [u8], refused: Refused) -> usize
     ensures { Wrote text.old 0 (refused_text refused.refusal refused.line) text.new result }
 {
-    let refusal = refused.refusal;
-    let fields = [
-        u64::from(refusal.number()),
-        refused.line as u64,
-        refusal.column() as u64,
-    ];
-    print::put_numbers_line(text, 0, b"refused", &fields)
+    print::put_numbers_line(text, 0, b"refused", &refused.numbers())
 }
 
 // The lines of a table, given the state after its last row.

@@ -38,6 +38,7 @@ fn diameter_of(table: &[i32], n: usize, declared: Tools, tool: u32) -> Option<u3
     query::diameter(table, n, tool).ok()
 }
 
+// Kept: table, n and tools as three: a struct of them would be made in one function and read in three.
 // The lines of the tools that have a diameter, by number. What puts one gets the tool and its diameter.
 pub(crate) fn put_each_tool<F: Fn(&mut [u8], usize, u32, u32) -> usize>(
     text: &mut [u8],

@@ -88,10 +88,9 @@ fn zeros(point: Point) -> bool
 
 // ---- a row's kind, and which numbers a kind carries
 
-// Kept: kinds are numbers here, and so are phases, units and motions. A row holds any numbers, and put::row and State::step promise
-// an answer for each.
+// Kept: kinds are numbers here: a row holds any number, and untested_command promises a command for each.
 
-// Without its sign, as all that is read as a natural number; one that a test let through has none.
+// The kind without its sign; one that a test let through has none.
 fn kind_at(row: &[i32; ROW_WIDTH]) -> u32
     ensures { result ≡ R.field_n row.now 0 }
 {

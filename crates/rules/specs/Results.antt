@@ -1,5 +1,5 @@
 -- What a question or a call answers: a value, or a refusal and its line. And a row as it is found in lent numbers, where it is one.
-use Rattle.std.specs.Prelude.{ℕ, Option, Some, Result, Ok, Err}
+use Rattle.std.specs.Prelude.{List, [], ◌∷◌, ℕ, Option, Some, Result, Ok, Err}
 use Rattle.runs.specs.Machine.{Out, yields, stops}
 use Rattle.rules.specs.declared.Command.{Command}
 use Rattle.rules.specs.declared.State.{State}
@@ -7,6 +7,7 @@ use Rattle.rules.specs.declared.Hole.{Hole}
 use Rattle.rules.specs.declared.Refusal.{Refusal}
 use Rattle.rules.specs.declared.Refused.{Refused}
 use Rattle.rules.specs.declared.Row.{Row}
+use Rattle.rules.specs.Refusals.{refusal_number, refusal_column}
 
 -- read, edit and write: one count
 abbrev pub Answer : Type 0
@@ -23,6 +24,10 @@ DiameterAnswer = Result ℕ Refused
 -- a refusal and its line
 abbrev pub at_line : Refusal → ℕ → Refused
 at_line e i = record { refusal = e; line = i }
+
+-- its number, its line and its column, in the order in which they are printed
+abbrev pub refused_numbers : Refused → List ℕ
+refused_numbers r = refusal_number r.refusal ∷ r.line ∷ refusal_column r.refusal ∷ []
 
 abbrev pub refused_at : {A : Type 0} → Refusal → ℕ → Result A Refused
 refused_at e i = Err (at_line e i)

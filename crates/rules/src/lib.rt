@@ -10,7 +10,7 @@ pub mod unit;
 
 ghost use Rattle.std.specs.Prelude.{◌≡◌};
 ghost use Rattle.rules.specs.Refusals.{refusal_number, refusal_column, forbidden_byte, out_of_range};
-ghost use Rattle.rules.specs.Results.{at_line};
+ghost use Rattle.rules.specs.Results.{at_line, refused_numbers};
 
 use points::{Arc, Point};
 use tools::Tools;
@@ -37,6 +37,7 @@ pub const ROW_WIDTH: usize = 16;
 pub const TABLE_ROOM: usize = ROW_WIDTH * MAX_LINES;
 
 /// The column of a refusal that names none.
+// Kept: 0, and no option: out_of_range promises every column.
 pub const NO_COLUMN: usize = 0;
 
 /// 7 for a question's tool, which is in no text.
@@ -212,7 +213,7 @@ impl Refusal {
         }
     }
 
-    /// The column that it names, or that it names none.
+    /// The column that it names, 0 where it names none.
     pub fn column(self) -> usize
         ensures { result ≡ refusal_column self }
     {
@@ -233,6 +234,20 @@ impl Refusal {
     }
 }
 
+impl Refused {
+    /// Its number, its line and its column, in the order in which they are printed.
+    pub fn numbers(self) -> [u64; 3]
+        ensures { result ≡ refused_numbers self }
+    {
+        [
+            u64::from(self.refusal.number()),
+            self.line as u64,
+            self.refusal.column() as u64,
+        ]
+    }
+}
+
+// Kept: two functions beside the variants: docs/PROMISES.md has their promises.
 /// 4, in the column of the first forbidden byte.
 pub fn forbidden_byte(column: usize) -> Refusal
     ensures { result ≡ forbidden_byte column }

@@ -7,6 +7,7 @@ use points::{Arc, Point};
 use tools::Tools;
 
 // No tool is selected.
+// Kept: 0, and no option: State::step promises an answer for every number of a state.
 const NO_TOOL: u32 = 0;
 
 // What a command needs: the refusal where the test fails.
@@ -224,6 +225,7 @@ impl State {
     }
 
     /// Whether two states agree in all ten numbers.
+    // Kept: a function beside `==`: docs/PROMISES.md has its promise.
     #[tactic(auto, using(points::proofs::Same::same_point_eq), unfolding(crate::specs::State::same_state, tools::specs::Set::same_tools))]
     pub fn same(self, other: State) -> bool
         ensures { result ≡ S.same_state self other }

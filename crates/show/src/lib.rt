@@ -4,12 +4,16 @@
 
 pub mod arguments;
 
-ghost use Rattle.std.specs.Prelude.{◌≤◌, length, IfOk, IfSome};
+ghost use Rattle.std.specs.Prelude.{◌≤◌, length, IfOk};
 
 use print::LINE_ROOM;
 use rules::{Hole, Refused};
 use std::io;
 use std::io::{Print, Read};
+
+/// Standard input can't be read.
+#[derive(Clone, Copy, PartialEq, Eq)]
+pub struct Unreadable;
 
 /// Why there is no line of standard input: it is too long, or can't be read.
 #[derive(Clone, Copy, PartialEq, Eq)]
@@ -42,13 +46,7 @@ pub fn hole(output: &impl Print, line: usize, hole: Hole) {
 
 /// `refused`, number, line and column.
 pub fn refused(output: &impl Print, refused: Refused) {
-    let refusal = refused.refusal;
-    let fields = [
-        refusal.number() as u64,
-        refused.line as u64,
-        refusal.column() as u64,
-    ];
-    numbers(output, b"refused", &fields);
+    numbers(output, b"refused", &refused.numbers());
 }
 
 fn cannot_read(errors: &impl Print) {
@@ -92,24 +90,29 @@ pub fn read_line(
     Err(LineFault::TooLong)
 }
 
-/// Reads standard input until it ends or the block is full: how many bytes, or that it can't be read. Nothing else is an error.
-pub fn read_input(input: &mut impl Read, errors: &impl Print, block: &mut [u8]) -> Option<usize>
-    ensures { IfSome result (λ n. n ≤ length block.old) }
+/// Reads standard input until it ends or the block is full: how many bytes. Nothing but a failed read is an error.
+pub fn read_input(
+    input: &mut impl Read,
+    errors: &impl Print,
+    block: &mut [u8],
+) -> Result<usize, Unreadable>
+    ensures { IfOk result (λ n. n ≤ length block.old) }
 {
     let mut got = 0;
+    // Kept: how far each read comes is the input's to say, so no count of turns is known.
     while got < block.len() {
         match input.read(&mut block[got..]) {
             Ok(0) => {
-                return Some(got);
+                return Ok(got);
             }
             Ok(more) => {
                 got += more;
             }
             Err(_) => {
                 cannot_read(errors);
-                return None;
+                return Err(Unreadable);
             }
         }
     }
-    Some(got)
+    Ok(got)
 }

@@ -1,5 +1,6 @@
 // A command's line as text: how long it is, and its bytes. Each function that writes does so from place `at` on, as crate
 // text has it, and hands back the place after its text.
+// Kept: bytes and place as two parameters, as in crate text, for the same reason.
 #![tactic(auto)]
 
 ghost use Rattle.std.specs.Prelude.{◌≡◌, ◌++◌, ◌≤◌, length};

@@ -1,5 +1,5 @@
 // A table in lent numbers, looked at. `i` counts the rows before a row: row i is line i + 1.
-// Kept: the numbers and n side by side. C lends them so, and each function promises an answer for every n, one that fits or not.
+// Kept: the numbers and n side by side. C lends them so, and each public function promises an answer for every n, one that fits or not.
 #![tactic(auto)]
 
 ghost use Rattle.std.specs.Prelude.{◌≡◌, ◌-◌};
@@ -16,13 +16,7 @@ use rules::{Command, MAX_LINES, ROW_WIDTH, Row, State};
 pub fn sizes_fit(table: &[i32], n: usize) -> bool
     ensures { result ≡ Rows.sizes_fit table.now n }
 {
-    if n == 0 {
-        return false;
-    }
-    if MAX_LINES < n {
-        return false;
-    }
-    n <= table.len() / ROW_WIDTH
+    (1..=MAX_LINES).contains(&n) && n <= table.len() / ROW_WIDTH
 }
 
 /// Whether a table of n rows has the line.
@@ -30,10 +24,7 @@ pub fn sizes_fit(table: &[i32], n: usize) -> bool
 pub fn is_line(n: usize, line: usize) -> bool
     ensures { result ≡ Editing.is_line n line }
 {
-    if line == 0 {
-        return false;
-    }
-    line <= n
+    (1..=n).contains(&line)
 }
 
 // ---- its rows
@@ -43,12 +34,7 @@ pub fn is_line(n: usize, line: usize) -> bool
 pub fn look(table: &[i32], i: usize) -> Option<Row>
     ensures { result ≡ S.look_at table.now i }
 {
-    if table.len() / ROW_WIDTH <= i {
-        return None;
-    }
-    let start = ROW_WIDTH * i;
-    let end = start + ROW_WIDTH;
-    row::look(&table[start..end])
+    row::look(table.as_chunks::<ROW_WIDTH>().0.get(i)?)
 }
 
 /// The command in row i, of which nothing is tested: for a row that was looked at before. Past the end there is none.
@@ -56,11 +42,10 @@ pub fn look(table: &[i32], i: usize) -> Option<Row>
 pub fn untested_command(table: &[i32], i: usize) -> Command
     ensures { result ≡ S.untested_at table.now i }
 {
-    if table.len() / ROW_WIDTH <= i {
+    let Some(numbers) = table.as_chunks::<ROW_WIDTH>().0.get(i) else {
         return Command::Comment;
-    }
-    let first = ROW_WIDTH * i;
-    row::untested_command(&table[first..first + ROW_WIDTH])
+    };
+    row::untested_command(numbers)
 }
 
 /// Row i, where it is one and follows from the state before it.

@@ -7,7 +7,7 @@ use native.Mathlib.Omega.{arith}
 use borrow.Author.Tests.{leb-true}
 use lib.Dec.{leb}
 use lib.ListN.{length}
-use Rattle.std.specs.Prelude.{Option, Some, is_some}
+use Rattle.std.specs.Prelude.{Result, Ok, is_ok}
 use Rattle.lists.proofs.Choice.{both}
 use Rattle.rules.specs.declared.Way.{Way}
 use Rattle.rules.specs.declared.Counts.{Counts}
@@ -76,19 +76,19 @@ fit_is : (old : Rows) (c : Counts) → holds_all c (table_numbers old) ≡ count
 unfolding counts_fit
 fit_is old c = ap₂ ◌&&◌ (holds_is hits old c.hits) (holds_is routs old c.routs)
 
-pub fits_is : (old : Rows) (c : Counts) → is_some (without_rows c (table_numbers old)) ≡ counts_fit old c
+pub fits_is : (old : Rows) (c : Counts) → is_ok (without_rows c (table_numbers old)) ≡ counts_fit old c
 unfolding without_rows
 fits_is old c = by (holds_all c (table_numbers old)) refl ∙ fit_is old c
   where
-    by : (b : Bool) → holds_all c (table_numbers old) ≡ b → is_some (without_rows c (table_numbers old)) ≡ holds_all c (table_numbers old)
+    by : (b : Bool) → holds_all c (table_numbers old) ≡ b → is_ok (without_rows c (table_numbers old)) ≡ holds_all c (table_numbers old)
     by true e = rw e
     by false e = rw e
 
 pub counts_replaced : (old new : Rows) (c : Counts) → counts_fit old c ≡ true → length new ≤ max_lines
-    → (left : Counts) → without_rows c (table_numbers old) ≡ Some left → with_rows left (table_numbers new) ≡ counts_after old new c
+    → (left : Counts) → without_rows c (table_numbers old) ≡ Ok left → with_rows left (table_numbers new) ≡ counts_after old new c
 unfolding with_rows without_rows counts_after counts_fit
 counts_replaced old new c h few left e =
-    let taken : ◌≡◌ {A = Option Counts} (Some (record { hits = fewer hits (table_numbers old) c.hits; routs = fewer routs (table_numbers old) c.routs })) (Some left)
+    let taken : ◌≡◌ {A = Result Counts Counts} (Ok (record { hits = fewer hits (table_numbers old) c.hits; routs = fewer routs (table_numbers old) c.routs })) (Ok left)
     = rw (fit_is old c, h) at e in
     let same : ◌≡◌ {A = Counts} (record { hits = fewer hits (table_numbers old) c.hits; routs = fewer routs (table_numbers old) c.routs }) left = cc in
     let b = both (way_fits hits old c.hits) (way_fits routs old c.routs) h in

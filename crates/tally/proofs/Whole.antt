@@ -5,7 +5,7 @@ use mathlib.Core.List.{List}
 use Prim.Native.Nat.{ℕ}
 use lib.Dec.{leb}
 use lib.IntN.{ℤ}
-use Rattle.std.specs.Prelude.{Option, Some, None, is_some}
+use Rattle.std.specs.Prelude.{Option, None, is_some, Ok, Err}
 use Rattle.rules.specs.declared.Way.{Way}
 use Rattle.rules.specs.declared.Counts.{Counts}
 use Rattle.rules.specs.Counting.{hits, routs, of_tool, max_count}
@@ -24,7 +24,7 @@ module _ (c : Counts) (l : List ℤ) where
   -- the tests, in the order in which the code makes them
   pub is_tested : without_rows c l
       ≡ cond ((none_over c.hits && none_over c.routs) && (none_under hits l c.hits && none_under routs l c.routs))
-      (Some (record { hits = fewer hits l c.hits; routs = fewer routs l c.routs })) None
+      (Ok (record { hits = fewer hits l c.hits; routs = fewer routs l c.routs })) (Err c)
   unfolding without_rows
   is_tested =
       rw (holds_rows_lem hits l c.hits, holds_rows_lem routs l c.routs, by (none_over c.hits) (none_under hits l c.hits) (none_over c.routs) (none_under routs l c.routs))

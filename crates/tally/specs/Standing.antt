@@ -1,6 +1,6 @@
 -- Holes counted in the numbers of rows as they stand: two numbers of each row are looked at, and neither is tested. Where the rows
 -- are whole, these are the counts of the rows (proofs/Standing).
-use Rattle.std.specs.Prelude.{Option, Some, None, MatchOption, ◌≡◌, Bool, true, ◌&&◌, cond, List, ℕ, zero, suc, ◌+◌, ◌-◌, ◌*◌, ◌/◌, ◌≤◌, leb, ltb, eqb, ℤ, length}
+use Rattle.std.specs.Prelude.{Option, MatchOption, Result, Ok, Err, ◌≡◌, Bool, true, ◌&&◌, cond, List, ℕ, zero, suc, ◌+◌, ◌-◌, ◌*◌, ◌/◌, ◌≤◌, leb, ltb, eqb, ℤ, length}
 use Rattle.rules.specs.declared.Way.{Way}
 use Rattle.rules.specs.declared.Counts.{Counts}
 use Rattle.rules.specs.Numbers.{max_tool}
@@ -65,6 +65,6 @@ holds_rows w l c = for_each_tool (λ t. leb (of_tool c t) max_count && leb (stan
 abbrev pub holds_all : Counts → List ℤ → Bool
 holds_all c l = holds_rows hits l c.hits && holds_rows routs l c.routs
 
--- the counts without the rows' holes, or none, where they can't be counts of a table with those rows
-unfoldable pub without_rows : Counts → List ℤ → Option Counts
-without_rows c l = cond (holds_all c l) (Some (record { hits = fewer hits l c.hits; routs = fewer routs l c.routs })) None
+-- the counts without the rows' holes; or, where they can't be counts of a table with those rows, as they were
+unfoldable pub without_rows : Counts → List ℤ → Result Counts Counts
+without_rows c l = cond (holds_all c l) (Ok (record { hits = fewer hits l c.hits; routs = fewer routs l c.routs })) (Err c)

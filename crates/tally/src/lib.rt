@@ -40,6 +40,7 @@ fn add(counts: &mut [u32; TOOLS], rows: &[i32], way: Way)
 }
 
 // The holes that rows make one way, taken away, unless a tool has fewer.
+// Kept: a walk beside that of `add`: it stops where a tool has fewer.
 fn take(counts: &mut [u32; TOOLS], rows: &[i32], way: Way) -> Option<()>
     ensures { S.Takes way rows.now counts.old (is_some result) counts.new }
 {
@@ -85,19 +86,24 @@ pub fn with_rows(mut counts: Counts, rows: &[i32]) -> Counts
 }
 
 /// Counts without the holes of some rows, where each count is at most 1,000 and at least what the rows take from it. Else they
-/// can't be counts of a table with those rows, and there are none.
+/// can't be counts of a table with those rows, and are handed back as they were.
 // a call of its own, so that its copies take no stack while others run
 #[inline(never)]
 #[tactic(auto, using(crate::proofs::Whole::is_tested))]
-pub fn without_rows(mut counts: Counts, rows: &[i32]) -> Option<Counts>
+pub fn without_rows(counts: Counts, rows: &[i32]) -> Result<Counts, Counts>
     ensures { result ≡ S.without_rows counts rows.now }
 {
     if !(none_over(&counts.hits) && none_over(&counts.routs)) {
-        return None;
+        return Err(counts);
     }
-    take(&mut counts.hits, rows, HITS)?;
-    take(&mut counts.routs, rows, ROUTS)?;
-    Some(counts)
+    let mut left = counts;
+    if take(&mut left.hits, rows, HITS).is_none() {
+        return Err(counts);
+    }
+    if take(&mut left.routs, rows, ROUTS).is_none() {
+        return Err(counts);
+    }
+    Ok(left)
 }
 
 // A tool's number among those of all tools; 7 at line 0 where there is no such tool.

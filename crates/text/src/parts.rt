@@ -15,6 +15,7 @@ pub fn put_byte(b: &mut [u8], at: usize, v: u8) -> usize
 }
 
 /// A word, byte by byte: one that stands in the code is then stored from there, and not first built in memory.
+// Kept: byte by byte, for what is said above.
 #[tactic(auto, using(crate::proofs::Wrote::wrote_more))]
 pub fn put_word(b: &mut [u8], at: usize, word: &[u8]) -> usize
     ensures { Wrote b.old at word.now b.new result }

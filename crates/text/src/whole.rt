@@ -1,5 +1,5 @@
 // Whole numbers in decimal, without leading zeros.
-ghost use Rattle.std.specs.Prelude.{◌≡◌, ◌≤◌, length};
+ghost use Rattle.std.specs.Prelude.{◌≡◌, length};
 ghost use Rattle.rules.specs.Printing.{decimal, signed_decimal};
 ghost use Rattle.text.specs.Wrote.{Wrote};
 
@@ -22,6 +22,7 @@ pub fn put_decimal(b: &mut [u8], at: usize, n: u64) -> usize
 }
 
 /// A minus where negative, no plus.
+// Kept: the minus here and in crate millionths: one line, and a function for it would be no plainer.
 pub fn put_signed(b: &mut [u8], at: usize, x: i32) -> usize
     ensures { Wrote b.old at (signed_decimal x) b.new result }
 {

@@ -5,6 +5,7 @@ ghost use Rattle.std.specs.Prelude.{◌≡◌, ◌<◌, ◌^◌};
 ghost use Rattle.tools.specs.Set as D;
 
 /// The declared tools, in four masked words: tool t is bit t mod 25 of word t div 25.
+// Kept: four words, which document 01 names as the form.
 #[derive(Clone, Copy, PartialEq, Eq)]
 pub struct Tools {
     pub a: u32,
@@ -76,6 +77,7 @@ impl Tools {
     }
 
     /// Whether two sets agree in all four words.
+    // Kept: a function beside `==`: docs/PROMISES.md has its promise.
     #[tactic(auto, unfolding(crate::specs::Set::same_tools))]
     pub fn same(self, other: Tools) -> bool
         ensures { result ≡ D.same_tools self other }

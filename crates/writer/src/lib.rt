@@ -1,5 +1,5 @@
 // The writer: text in lent bytes, each byte straight at its place.
-// Kept: the numbers and n side by side. C lends them so, and each function promises an answer for every n, one that fits or not.
+// Kept: the numbers and n side by side. C lends them so, and each public function promises an answer for every n, one that fits or not.
 #![tactic(auto)]
 
 ghost use Rattle.std.specs.Prelude.{◌≡◌, ◌*◌, ◌≤◌, length};
@@ -54,6 +54,7 @@ fn put_rows(table: &[i32], n: usize, text: &mut [u8])
 pub fn write(table: &[i32], n: usize, text: &mut [u8]) -> Result<usize, Refused>
     ensures { (said result ≡ said (write_answer table.now n text.old)) × (text.new ≡ write_leaves table.now n text.old) }
 {
+    // Kept: tests one by one, in document 01's order.
     if !table::sizes_fit(table, n) {
         return Err(Refusal::BadTable.at(0));
     }

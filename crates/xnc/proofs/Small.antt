@@ -1,11 +1,11 @@
 -- There is room for every part of every answer: no line and no count goes further than a file's lines or the bytes of its text, no column
 -- further than the longest line (crate answers, Small).
-use mathlib.Core.Path.{◌≡◌, refl, sym, ◌∙◌, subst}
+use mathlib.Core.Path.{◌≡◌, refl, sym, ◌∙◌}
 use mathlib.Core.List.{List}
 use Prim.Native.Nat.{ℕ, ◌<◌}
 use native.Mathlib.Omega.{arith}
 use lib.IntN.{ℤ}
-use Rattle.rules.specs.Results.{Answer, HoleAnswer, refused_at}
+use Rattle.rules.specs.Results.{HoleAnswer, refused_at}
 use Rattle.rules.specs.declared.Refusal.{Refusal}
 use Rattle.rules.specs.declared.Revision.{Revision}
 use Rattle.rules.specs.declared.Counts.{Counts}

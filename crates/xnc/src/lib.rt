@@ -2,7 +2,7 @@
 // line of the refusal or, where the number is 0, the count.
 #![tactic(auto)]
 
-ghost use Rattle.std.specs.Prelude.{◌≡◌, ◌+◌, ◌≤◌, IfOk, length, take, drop};
+ghost use Rattle.std.specs.Prelude.{◌≡◌, ◌+◌, ◌≤◌, length, take, drop};
 ghost use Rattle.lists.specs.Put.{put_at};
 ghost use Rattle.rules.specs.Numbers.{max_tool};
 ghost use Rattle.rules.specs.Answers.{refused, said, hole_numbers};
@@ -14,17 +14,18 @@ ghost use Rattle.xnc.specs.Counts.{counts_width, counts_numbers, counts_in, no_b
 
 use rules::{Counted, Counts, Hole, MAX_TOOL, NO_SUCH_TOOL, Refusal, Refused, Revision, TOOLS};
 
-const NUMBER_SHIFT: u64 = 281474976710656;
+const NUMBER_SHIFT: u64 = 1 << 48;
 
-const COLUMN_SHIFT: u64 = 4294967296;
+const COLUMN_SHIFT: u64 = 1 << 32;
 
 // Numbers of a hole: kind, tool, start x and y, end x and y, radius.
 const HOLE_WIDTH: usize = 7;
 
 // Numbers of the counts: the hits of each tool, then the routs.
-const COUNTS_WIDTH: usize = 198;
+const COUNTS_WIDTH: usize = 2 * TOOLS;
 
 // The revision that a caller's number names: 2019 is that one, any other number 2021.
+// Kept: a From<u32> for Revision would stand in crate rules and say of every number what only the door says.
 fn revision_of(number: u32) -> Revision
     ensures { result ≡ revision_of number }
 {
@@ -35,6 +36,7 @@ fn revision_of(number: u32) -> Revision
 }
 
 // A refusal's number, column and line. No line and no count comes near 2^32, no number or column near 2^16, so nothing is cut off.
+// Kept: `Narrow` asked for in four places: a type that says it would be made at each call, to be taken apart at once.
 fn pack_refusal(no: Refused) -> u64
     requires { Narrow (refused no.refusal no.line) }
     ensures { result ≡ packed_refusal no.refusal no.line }
@@ -57,46 +59,30 @@ fn pack(answer: Result<usize, Refused>) -> u64
 
 // ---- counts in a lent block
 
-// A number for each tool, from a place of the block on.
-fn part_at(block: &[u32], at: usize) -> [u32; TOOLS]
-    requires { at + max_tool ≤ length block.now }
-    ensures { result ≡ take max_tool (drop at block.now) }
-{
-    let mut part = [0; TOOLS];
-    part.copy_from_slice(&block[at..at + TOOLS]);
-    part
-}
-
-// The same back to the block, the rest as it was.
-fn put_part(block: &mut [u32], at: usize, part: &[u32; TOOLS])
-    requires { at + max_tool ≤ length block.old }
-    ensures { block.new ≡ put_at block.old at part.now }
-{
-    block[at..at + TOOLS].copy_from_slice(part);
-}
-
-fn counts_in(block: &[u32]) -> Counts
-    requires { counts_width ≤ length block.now }
+fn counts_in(block: &[u32; COUNTS_WIDTH]) -> Counts
     ensures { result ≡ counts_in block.now }
 {
-    Counts {
-        hits: part_at(block, 0),
-        routs: part_at(block, TOOLS),
-    }
+    let mut counts = Counts {
+        hits: [0; TOOLS],
+        routs: [0; TOOLS],
+    };
+    let (hits, routs) = block.split_at(TOOLS);
+    counts.hits.copy_from_slice(hits);
+    counts.routs.copy_from_slice(routs);
+    counts
 }
 
-fn put_counts(block: &mut [u32], counts: &Counts)
-    requires { counts_width ≤ length block.old }
+fn put_counts(block: &mut [u32; COUNTS_WIDTH], counts: &Counts)
     ensures { block.new ≡ put_at block.old 0 (counts_numbers counts.now) }
 {
-    put_part(block, 0, &counts.hits);
-    put_part(block, TOOLS, &counts.routs);
+    let (hits, routs) = block.split_at_mut(TOOLS);
+    hits.copy_from_slice(&counts.hits);
+    routs.copy_from_slice(&counts.routs);
 }
 
 // What a call that counts answers. On success the counts are put into the block.
-fn hand_out(block: &mut [u32], counted: &Counted) -> u64
-    requires narrow { Narrow (said counted.now.answer) }
-    requires room { IfOk counted.now.answer (λ n. counts_width ≤ length block.old) }
+fn hand_out(block: &mut [u32; COUNTS_WIDTH], counted: &Counted) -> u64
+    requires { Narrow (said counted.now.answer) }
     ensures answer { result ≡ packed counted.now.answer }
     ensures counts { block.new ≡ counts_left counted.now.answer block.old counted.now.counts }
 {
@@ -123,7 +109,11 @@ pub fn xnc_read(file: &[u8], revision: u32, table: &mut [i32], counts: &mut [u32
 {
     let room = room_for(table.len(), counts.len());
     let read = reader::read(file, revision_of(revision), &mut table[..room]);
-    hand_out(counts, &read)
+    // without a block there was no room, and the answer is a refusal
+    let Some(block) = counts.first_chunk_mut() else {
+        return pack(read.answer);
+    };
+    hand_out(block, &read)
 }
 
 // The answer where the block is too short: 15 after every refusal that does not look into it.
@@ -146,11 +136,11 @@ pub fn xnc_edit(
     ensures { EditDoor table.old n line text.now revision counts.old result table.new counts.new }
 {
     let by = revision_of(revision);
-    if counts.len() < COUNTS_WIDTH {
+    let Some(block) = counts.first_chunk_mut() else {
         return pack_without_block(editor::meeting(table, n, line, text, by));
-    }
-    let edited = editor::edit(table, n, line, text, by, counts_in(counts));
-    hand_out(counts, &edited)
+    };
+    let edited = editor::edit(table, n, line, text, by, counts_in(block));
+    hand_out(block, &edited)
 }
 
 // A tool's count, of those from a place of the block on.
@@ -206,19 +196,14 @@ fn put_hole(block: &mut [i32], h: Hole)
 pub fn xnc_hole(table: &[i32], n: usize, line: usize, hole: &mut [i32]) -> u64
     ensures { (result ≡ hole_packed (hole_answer table.now n line) hole.old) × (hole.new ≡ hole_leaves (hole_answer table.now n line) hole.old) }
 {
-    let answer = match query::hole(table, n, line) {
-        Ok(answer) => answer,
-        Err(refused) => return pack_refusal(refused),
-    };
-    if hole.len() < HOLE_WIDTH {
-        return pack_refusal(Refusal::NoRoom.at(0));
-    }
-    match answer {
-        Some(made) => {
+    match query::hole(table, n, line) {
+        Err(refused) => pack_refusal(refused),
+        Ok(_) if hole.len() < HOLE_WIDTH => pack_refusal(Refusal::NoRoom.at(0)),
+        Ok(Some(made)) => {
             put_hole(hole, made);
             1
         }
-        None => 0,
+        Ok(None) => 0,
     }
 }
 

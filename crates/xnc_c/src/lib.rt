@@ -1,4 +1,5 @@
 // The door's symbols for C: each calls the function of the same name in crate xnc, and promises what that one promises.
+// Kept: a function here for each there: C needs the symbols, and a static library can't be imported.
 #![tactic(auto)]
 
 ghost use Rattle.std.specs.Prelude.{◌≡◌};

@@ -10,6 +10,6 @@ returns-in_default c =
 pub returns-in-Err : goal.returns-in-Err
 returns-in-Err c = edit_refused _ _ _ _ _ _ _ c.not_edited.ensures c.in-Err.ensures
 
-pub returns-in-Some : goal.returns-in-Some
-returns-in-Some c =
-    edit_done _ _ _ _ _ _ _ _ _ c.in-Ok.ensures (sym c.without_rows.ensures ∙ c.in-Some.is) c.write.ensures c.with_rows.ensures
+pub returns-in-Ok-without_rows : goal.returns-in-Ok-without_rows
+returns-in-Ok-without_rows c =
+    edit_done _ _ _ _ _ _ _ _ _ c.in-Ok.ensures (sym c.without_rows.ensures ∙ c.in-Ok-without_rows.is) c.write.ensures c.with_rows.ensures
