@@ -3,7 +3,7 @@
 use mathlib.Core.Path.{◌≡◌, refl, sym, ap, ◌∙◌}
 use mathlib.Core.Bool.{Bool, true, false, cond}
 use mathlib.Core.List.{List, ◌∷◌}
-use Prim.Native.Nat.{ℕ, zero, suc, ◌+◌, ◌-◌, ◌*◌, ◌/◌, ◌<◌, ◌≤◌}
+use Prim.Native.Nat.{ℕ, suc, ◌+◌, ◌-◌, ◌*◌, ◌/◌, ◌<◌, ◌≤◌}
 use native.Mathlib.Omega.{arith}
 use native.Mathlib.Nat.{add-zero}
 use borrow.Author.Tests.{leb-true, leb-false, le-leb, lt-leb, eq-eqb}
@@ -12,7 +12,6 @@ use lib.IntN.{ℤ}
 use lib.ListN.{length, get_or, take, drop, length-drop}
 use lib.Seq.{drop-drop, length-take-le, get_or-drop}
 use Rattle.std.specs.Prelude.{Some, None}
-use Rattle.std.specs.Simd.{first_chunks}
 use Rattle.runs.specs.Machine.{Row, Entry, holds, bad}
 use Rattle.rules.specs.declared.Command.{Command}
 use Rattle.rules.specs.declared.Command.TheVariants.{Comment}
@@ -27,14 +26,6 @@ use Rattle.laws.proofs.Entries.{entries_drop}
 use Rattle.row.specs.Row.{of_row}
 use Rattle.table.specs.Table.{numbers_at, at_row, look_at, untested_at, row_at}
 
--- row i of the rows cut out of numbers
-cut_at : (t : List ℤ) (k i : ℕ) (d : List ℤ) → i < k → get_or (first_chunks row_width k t) i d ≡ numbers_at t i
-cut_at t zero i d h = absurd (omega arith)
-cut_at t (suc k) zero d h = refl
-cut_at t (suc k) (suc i) d h =
-    let e : row_width + row_width * i ≡ row_width * suc i = omega arith in
-    cut_at (drop row_width t) k i d (omega arith) ∙ ap (take row_width) (drop-drop (row_width * i) row_width t ∙ ap (λ (n : ℕ). drop n t) e)
-
 module _ (t : List ℤ) (i : ℕ) where
   many : row_width * i + row_width ≤ length t → length (numbers_at t i) ≡ row_width
   many h = length-take-le row_width (drop (row_width * i) t) (simp length-drop (omega arith))
@@ -48,11 +39,10 @@ module _ (t : List ℤ) (i : ℕ) where
     pub row_past : length t / row_width ≤ i → z ≡ at_row f z t i
     row_past h = rw (lt-leb (row_width * i + row_width) (length t) (omega arith))
 
-    pub row_part : {r : A} {rows : List (List ℤ)} {a : List ℤ} → i < length rows → length rows ≡ length t / row_width
-        → rows ≡ first_chunks row_width (length t / row_width) t → a ≡ get_or rows i a → r ≡ of_row f z a → r ≡ at_row f z t i
-    row_part {a = a} h n e g o =
-        o ∙ ap (of_row f z) (g ∙ ap (λ (l : List (List ℤ)). get_or l i a) e ∙ cut_at t (length t / row_width) i a (omega arith))
-        ∙ rw (eq-eqb (length (numbers_at t i)) row_width (many (omega arith))) (sym (inside_row (omega arith)))
+    pub row_part : {r : A} → i < length t / row_width → r ≡ of_row f z (take (row_width * i + row_width - row_width * i) (drop (row_width * i) t)) → r ≡ at_row f z t i
+    row_part h e =
+        let g : row_width * i + row_width - row_width * i ≡ row_width = omega arith in
+        e ∙ rw (g, eq-eqb (length (numbers_at t i)) row_width (many (omega arith))) (sym (inside_row (omega arith)))
 
   look_inside : row_width * i + row_width ≤ length t → look_at t i ≡ look_of (numbers_at t i)
   unfolding look_at

@@ -16,7 +16,13 @@ use rules::{Command, MAX_LINES, ROW_WIDTH, Row, State};
 pub fn sizes_fit(table: &[i32], n: usize) -> bool
     ensures { result ≡ Rows.sizes_fit table.now n }
 {
-    (1..=MAX_LINES).contains(&n) && n <= table.len() / ROW_WIDTH
+    if n == 0 {
+        return false;
+    }
+    if MAX_LINES < n {
+        return false;
+    }
+    n <= table.len() / ROW_WIDTH
 }
 
 /// Whether a table of n rows has the line.
@@ -24,17 +30,27 @@ pub fn sizes_fit(table: &[i32], n: usize) -> bool
 pub fn is_line(n: usize, line: usize) -> bool
     ensures { result ≡ Editing.is_line n line }
 {
-    (1..=n).contains(&line)
+    if line == 0 {
+        return false;
+    }
+    line <= n
 }
 
 // ---- its rows
+
+// Kept: a row cut out by hand, twice: by `as_chunks` it proves, and writing 100 lines takes 1.21 and 1.24 times plain Rust, over 1.2.
 
 /// Row i, as its numbers are: no other number is looked at. Past the end there is none.
 #[tactic(auto, using(crate::proofs::Looks::row_past, crate::proofs::Looks::row_part), unfolding(crate::specs::Table::look_at, row::specs::Row::looked))]
 pub fn look(table: &[i32], i: usize) -> Option<Row>
     ensures { result ≡ S.look_at table.now i }
 {
-    row::look(table.as_chunks::<ROW_WIDTH>().0.get(i)?)
+    if table.len() / ROW_WIDTH <= i {
+        return None;
+    }
+    let start = ROW_WIDTH * i;
+    let end = start + ROW_WIDTH;
+    row::look(&table[start..end])
 }
 
 /// The command in row i, of which nothing is tested: for a row that was looked at before. Past the end there is none.
@@ -42,10 +58,11 @@ pub fn look(table: &[i32], i: usize) -> Option<Row>
 pub fn untested_command(table: &[i32], i: usize) -> Command
     ensures { result ≡ S.untested_at table.now i }
 {
-    let Some(numbers) = table.as_chunks::<ROW_WIDTH>().0.get(i) else {
+    if table.len() / ROW_WIDTH <= i {
         return Command::Comment;
-    };
-    row::untested_command(numbers)
+    }
+    let first = ROW_WIDTH * i;
+    row::untested_command(&table[first..first + ROW_WIDTH])
 }
 
 /// Row i, where it is one and follows from the state before it.
