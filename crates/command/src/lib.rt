@@ -108,7 +108,7 @@ fn declare_line(s: &[u8], at: usize, tool: u32) -> Result<Command, Refusal>
 {
     let diameter = size_at(s, at).ok_or(Refusal::NoSuchForm)?;
     if tool == 0 {
-        return Err(Refusal::OutOfRange(TOOL_COLUMN));
+        return Err(rules::out_of_range(TOOL_COLUMN));
     }
     Ok(Command::Declare(tool, number::size(diameter)?))
 }
@@ -148,7 +148,7 @@ fn tool_line(s: &[u8], revision: Revision) -> Result<Command, Refusal>
         return Err(Refusal::NoSuchForm);
     }
     if tool.value == 0 {
-        return Err(Refusal::OutOfRange(TOOL_COLUMN));
+        return Err(rules::out_of_range(TOOL_COLUMN));
     }
     Ok(Command::Select(tool.value))
 }

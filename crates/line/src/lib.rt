@@ -57,7 +57,7 @@ pub fn read(text: &[u8], revision: Revision) -> LineAnswer
     }
     let allowed = allowed_bytes(text);
     if allowed < text.len() {
-        return says_no(Refusal::ForbiddenByte(allowed + 1));
+        return says_no(rules::forbidden_byte(allowed + 1));
     }
     command::read(text, revision)
 }

@@ -2,11 +2,13 @@
 use mathlib.Core.Path.{◌≡◌, refl, sym, ◌∙◌}
 use mathlib.Core.Bool.{Bool, true, false, ◌&&◌, false≢true}
 use Rattle.std.proofs.lemmas.Bool.{eq-eqb, eqb-true}
-use Rattle.std.specs.Prelude.{eqb}
+use Rattle.std.specs.Prelude.{eqb, None, Ok, Err}
+use Rattle.std.specs.Result.{result_unwrap_or}
 use Rattle.rules.specs.declared.Hole.{Hole}
+use Rattle.rules.specs.Results.{HoleAnswer}
 use Rattle.points.specs.Points.{same_point}
 use Rattle.points.proofs.Same.{same_point_iff}
-use Rattle.moves.specs.Moves.{same_hole}
+use Rattle.moves.specs.Moves.{same_hole, made}
 
 same_by_ends :
     (a b : Hole) → a.kind ≡ b.kind → a.tool ≡ b.tool → a.radius ≡ b.radius → same_point a.start b.start ≡ true →
@@ -38,3 +40,8 @@ same_hole_refl a =
 
 pub same_hole_iff : (a b : Hole) → (same_hole a b ≡ true → a ≡ b) × (a ≡ b → same_hole a b ≡ true)
 same_hole_iff a b = (same_hole_true a b, λ e. rw e (same_hole_refl b))
+
+-- what is left of an answer where a refusal is none
+pub made_is : (a : HoleAnswer) → result_unwrap_or a None ≡ made a
+made_is (Ok h) = refl
+made_is (Err r) = refl

@@ -4,18 +4,33 @@
 #![tactic(auto)]
 
 ghost use Rattle.std.specs.Prelude.{◌≡◌};
+ghost use Rattle.rules.specs.Asking.{hole_answer};
 ghost use Rattle.moves.specs.Moves as Moves;
 
 use rules::{Counts, Hole, MAX_FILE, MAX_TOOL, Refusal, Revision, TABLE_ROOM};
 use show::LineFault;
 use std::io::{Print, Read};
 
+// Kept: number by number, and no `==`, so that an edit that takes one number for another is refused for what it says.
+#[tactic(auto, unfolding(crate::specs::Moves::same_hole))]
+fn same_hole(a: Hole, b: Hole) -> bool
+    ensures { result ≡ Moves.same_hole a b }
+{
+    a.kind == b.kind
+        && a.tool == b.tool
+        && a.radius == b.radius
+        && a.start.same(b.start)
+        && a.end.same(b.end)
+}
+
 // Whether a line's hole moved, came or went.
-#[tactic(auto, using(points::proofs::Same::same_point_eq), unfolding(crate::specs::Moves::same_hole))]
 fn differs(old: Option<Hole>, new: Option<Hole>) -> bool
     ensures { result ≡ Moves.differ old new }
 {
-    old != new
+    match (old, new) {
+        (Some(a), Some(b)) => !same_hole(a, b),
+        _ => old.is_some() || new.is_some(),
+    }
 }
 
 fn print_span(output: &impl Print, line: usize, meeting: usize) {
@@ -31,9 +46,11 @@ fn print_hole(output: &impl Print, sign: &[u8], line: usize, hole: Option<Hole>)
     }
 }
 
-// A line's hole, if it makes one.
-fn hole(table: &[i32], n: usize, line: usize) -> Option<Hole> {
-    query::hole(table, n, line).ok()?
+// A line's hole, if it makes one. A refused question is no hole.
+fn hole(table: &[i32], n: usize, line: usize) -> Option<Hole>
+    ensures { result ≡ Moves.made (hole_answer table.now n line) }
+{
+    query::hole(table, n, line).unwrap_or(None)
 }
 
 // A table of n rows before an edit and after it.
@@ -106,7 +123,7 @@ fn try_edit(
     let mut new = *old;
     let edited = editor::edit(&mut new, n, line, text, revision, counts);
     match edited.answer {
-        Err(refused) => show::refused(output, refused),
+        Err(refused) => show::refused(output, &refused.numbers()),
         Ok(meeting) => {
             let boards = Boards { old, new: &new, n };
             print_span(output, line, meeting);
@@ -148,7 +165,7 @@ fn answer(
     counts: Counts,
 ) {
     let Some((line, text)) = parted(first) else {
-        show::refused(output, Refusal::NoSuchLine.at(0));
+        show::refused(output, &Refusal::NoSuchLine.at(0).numbers());
         return;
     };
     try_edit(output, old, n, line, text, revision, counts);
@@ -158,7 +175,7 @@ fn report(output: &impl Print, first: &[u8], file: &[u8], revision: Revision) {
     let mut old = [0i32; TABLE_ROOM];
     let read = reader::read(file, revision, &mut old);
     match read.answer {
-        Err(refused) => show::refused(output, refused),
+        Err(refused) => show::refused(output, &refused.numbers()),
         Ok(n) => answer(output, &old, n, first, revision, read.counts),
     }
 }
@@ -189,7 +206,7 @@ fn read_first(input: &mut impl Read, output: &impl Print, errors: &impl Print, r
             line::text_of(&first[..got]),
             revision,
         ),
-        Err(LineFault::TooLong) => show::refused(output, Refusal::FileTooLong.at(0)),
+        Err(LineFault::TooLong) => show::refused(output, &Refusal::FileTooLong.at(0).numbers()),
         Err(LineFault::Unreadable) => {}
     }
 }

@@ -142,11 +142,11 @@ fn in_millionths(w: Written) -> Result<u32, Refusal>
     ensures { result ≡ cond (is_coordinate (decimal_of w)) (Ok (millionths (decimal_of w))) (Err (out_of_range w.column)) }
 {
     if w.places > MAX_PLACES {
-        return Err(Refusal::OutOfRange(w.column));
+        return Err(rules::out_of_range(w.column));
     }
     let n = u64::from(w.digits) * u64::from(points::place_of(w.places as u32));
     if n > MAX_NUMBER {
-        return Err(Refusal::OutOfRange(w.column));
+        return Err(rules::out_of_range(w.column));
     }
     Ok(n as u32)
 }
@@ -167,7 +167,7 @@ pub fn size(w: Written) -> Result<u32, Refusal>
     ensures { result ≡ size_read w.column (decimal_of w) }
 {
     match in_millionths(w)? {
-        0 => Err(Refusal::OutOfRange(w.column)),
+        0 => Err(rules::out_of_range(w.column)),
         n => Ok(n),
     }
 }

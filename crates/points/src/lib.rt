@@ -24,12 +24,12 @@ const LARGEST: u64 = 4294967295;
 
 impl Point {
     /// Whether two points are one.
-    // Kept: a function beside `==`: docs/PROMISES.md has its promise.
-    #[tactic(auto, using(crate::proofs::Same::same_point_eq))]
+    // Kept: a function beside `==`, since docs/PROMISES.md has its promise; and number by number, so that an edit that takes one number
+    // for the other is refused for what it says.
     pub fn same(self, other: Point) -> bool
         ensures { result ≡ S.same_point self other }
     {
-        self == other
+        (self.x, self.y) == (other.x, other.y)
     }
 }
 
@@ -115,12 +115,12 @@ impl Arc {
 
     /// Whether there is an arc from a point: the ends differ, and are no further apart than two radii and one unit of the radius's
     /// last written place.
-    #[tactic(auto, using(crate::proofs::Same::same_point_eq), unfolding(crate::specs::Points::is_possible))]
+    #[tactic(auto, unfolding(crate::specs::Points::is_possible))]
     pub fn is_possible(self, from: Point) -> bool
         ensures { result ≡ S.is_possible from self }
     {
         let to = self.to;
-        if from == to {
+        if from.same(to) {
             return false;
         }
         self.reaches(from)

@@ -1,6 +1,6 @@
 -- For contracts of private functions alone: lines read on from somewhere in the file, and their rows in a block.
 use Rattle.rules.specs.Results.{Answer, refused_at}
-use Rattle.std.specs.Prelude.{◌≡◌, Bool, cond, ◌&&◌, List, [], ℕ, ◌+◌, ◌-◌, ◌*◌, ◌≤◌, ℤ, eqb, ltb, length, get_or, take, Ok, Err}
+use Rattle.std.specs.Prelude.{◌≡◌, List, [], ℕ, ◌+◌, ◌*◌, ◌≤◌, ℤ, length, Ok, Err}
 use Rattle.lists.specs.Put.{put_at}
 use Rattle.runs.specs.Machine.{Verdict, accepted, refused}
 use Rattle.rules.specs.declared.Refusal.{Refusal}
@@ -8,17 +8,10 @@ use Rattle.rules.specs.declared.Refused.{Refused}
 use Rattle.rules.specs.declared.Counted.{Counted}
 use Rattle.rules.specs.declared.Revision.{Revision}
 use Rattle.rules.specs.Numbers.{max_lines}
-use Rattle.rules.specs.Lines.{LF, Line, lines_of}
+use Rattle.rules.specs.Lines.{lines_of}
 use Rattle.rules.specs.Rows.{row_width, table_numbers}
 use Rattle.rules.specs.Reading.{Rows, run_of}
 use Rattle.rules.specs.Counting.{no_counts}
-
--- a part of a file up to its first LF, or to the file's end, as a line
-unfoldable pub ends_in_lf : List ℕ → Bool
-ends_in_lf l = ltb 0 (length l) && eqb (get_or l (length l - 1) 0) LF
-
-unfoldable pub line_of_part : List ℕ → Line
-line_of_part l = record { bytes = cond (ends_in_lf l) (take (length l - 1) l) l; ended = ends_in_lf l }
 
 -- the answer, where n lines came before
 abbrev pub told_from : ℕ → Verdict Rows Refusal → Answer

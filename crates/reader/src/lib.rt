@@ -3,22 +3,10 @@
 #![tactic(auto)]
 
 ghost use Rattle.std.specs.Prelude.{◌≡◌};
-ghost use Rattle.line.specs.Line.{line_of_bytes};
-ghost use Rattle.reader.specs.Parts.{LinesRead, line_of_part, not_read};
+ghost use Rattle.reader.specs.Parts.{LinesRead, not_read};
 ghost use Rattle.reader.specs.Read.{ReadIs};
 
 use rules::{Counted, MAX_FILE, ROW_WIDTH, Refusal, Refused, Revision, State, TABLE_ROOM};
-
-// A line's bytes without the LF that ends it, and whether the LF is there.
-#[tactic(auto, using(crate::proofs::Parts::cut_ended, crate::proofs::Parts::cut_other, crate::proofs::Parts::cut_empty))]
-fn cut_lf(part: &[u8]) -> (&[u8], bool)
-    ensures { line_of_bytes result.0.now result.1 ≡ line_of_part part.now }
-{
-    match part {
-        [text @ .., b'\n'] => (text, true),
-        _ => (part, false),
-    }
-}
 
 // The file's lines one after another, each read and taken, and its row put into the block.
 fn read_lines(
@@ -30,15 +18,19 @@ fn read_lines(
 {
     let mut state = State::new();
     let mut n = 0;
-    for part in file.split_inclusive(|b| *b == b'\n') {
+    let mut at = 0;
+    // Kept: no iterator: where a line ends is line::find_lf's to say, whose promise docs/PROMISES.md has.
+    while at < file.len() {
         let number = n + 1;
-        let (text, ended) = cut_lf(part);
-        let command = line::answer(number, text, ended, revision)
+        let end = line::find_lf(file, at);
+        let ended = end < file.len();
+        let command = line::answer(number, &file[at..end], ended, revision)
             .command
             .map_err(|refusal| refusal.at(number))?;
         state = state.step(command).map_err(|refusal| refusal.at(number))?;
         put::row(rows, n, command, state);
         n = number;
+        at = end + 1;
     }
     if state.has_ended() {
         return Ok(n);

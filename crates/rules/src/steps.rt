@@ -225,11 +225,16 @@ impl State {
     }
 
     /// Whether two states agree in all ten numbers.
-    // Kept: a function beside `==`: docs/PROMISES.md has its promise.
-    #[tactic(auto, using(points::proofs::Same::same_point_eq), unfolding(crate::specs::State::same_state, tools::specs::Set::same_tools))]
+    // Kept: no `==`: docs/PROMISES.md has this promise, and those of `Point::same` and `Tools::same`, which `==` would pass by.
+    #[tactic(auto, unfolding(crate::specs::State::same_state))]
     pub fn same(self, other: State) -> bool
         ensures { result ≡ S.same_state self other }
     {
-        self == other
+        self.phase == other.phase
+            && self.unit == other.unit
+            && self.motion == other.motion
+            && self.tool == other.tool
+            && self.at.same(other.at)
+            && self.tools.same(other.tools)
     }
 }

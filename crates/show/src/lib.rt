@@ -7,7 +7,7 @@ pub mod arguments;
 ghost use Rattle.std.specs.Prelude.{◌≤◌, length, IfOk};
 
 use print::LINE_ROOM;
-use rules::{Hole, Refused};
+use rules::Hole;
 use std::io;
 use std::io::{Print, Read};
 
@@ -44,9 +44,9 @@ pub fn hole(output: &impl Print, line: usize, hole: Hole) {
     let _ = output.write_all(&block[..length]);
 }
 
-/// `refused`, number, line and column.
-pub fn refused(output: &impl Print, refused: Refused) {
-    numbers(output, b"refused", &refused.numbers());
+/// `refused`, then the number, the line and the column of a refusal: any three numbers.
+pub fn refused(output: &impl Print, fields: &[u64; 3]) {
+    numbers(output, b"refused", fields);
 }
 
 fn cannot_read(errors: &impl Print) {

@@ -1,5 +1,10 @@
+use Prim.Native.Nat.{◌-◌}
+use lib.ListN.{length, drop}
 use Rattle.reader.proofs.Turns.{Going}
 use Rattle.reader.proofs.read_lines.Given as goal
 
-abbrev pub invariant-loop-part : goal.invariant-loop-part
-invariant-loop-part l = Going l.revision l.file l.initial.rows l.rows l.state l.n l.part-iterator.rest.now
+abbrev pub invariant-loop-at : goal.invariant-loop-at
+invariant-loop-at l = Going l.revision l.file l.initial.rows l.rows l.state l.n (drop l.at l.file)
+
+abbrev pub decreases-loop-at : goal.decreases-loop-at
+decreases-loop-at l = length l.file - l.at

@@ -15,7 +15,7 @@ returns c =
     let a = c.args in
     let front = c.in-Some.ensures.cases in
     read_is a.revision a.file.now a.table.now a.counts.now c.revision_of.ensures c.room_for-room.ensures.0 c.read-read.ensures front.enough (search rules) (search rules)
-    c.hand_out.ensures.answer front.same c.hand_out.ensures.counts
+    (search rules) front.same c.hand_out.ensures.counts
 
 pub returns-in_default : goal.returns-in_default
 returns-in_default c =
